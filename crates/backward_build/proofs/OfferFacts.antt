@@ -21,8 +21,6 @@ use Rattle.offer_book.specs.declared.line.LineKind.{LineKind}
 use Rattle.offer_book.specs.declared.line.LineKind.TheVariants.{Cash, Market, Security}
 use Rattle.offer_book.specs.declared.payment_days.PaymentDays.{PaymentDays}
 use Rattle.offer_book.proofs.LineFacts.{is_paid, kind_flows}
-use Rattle.offer_book.proofs.MarketFacts.{note-by}
-use Rattle.offer_book.proofs.OfferFacts.{slgs-by}
 use Rattle.cash_table.proofs.PermitFacts.{position_at, position_none}
 use Rattle.backward_build.specs.OwnOffer.{ends_on, line_at, need_at, own_offer_of}
 use Rattle.backward_build.specs.OwnOfferLaws.{LinesEndByTheirPayments}
@@ -82,23 +80,6 @@ pub own_security : (book : BookContents) (day : ℤ) (number : ℕ) → AreLines
 own_security book day number kept e =
     let own = own_is book day number e in
     security_at book.days day book.lines number (cash_line 0) kept own.within own.due
-
--- the open day of each maturity can be asked
-abbrev pub MaturesBy2190 : LineKind → Type 0
-MaturesBy2190 Cash = Unit {0}
-MaturesBy2190 (Security slgs) = IsBy2190 slgs.maturity
-MaturesBy2190 (Market note) = IsBy2190 note.maturity
-
-kind-by : (days : PaymentDays) (kind : LineKind) → IsSettlement days.settle → IsSecurity days kind → MaturesBy2190 kind
-kind-by days Cash h security = absurd security
-kind-by days (Security slgs) h security = slgs-by days.settle slgs h security.0 security.1
-kind-by days (Market note) h security = note-by note security.1
-
-pub line-by : (days : PaymentDays) (line : Line) → IsSettlement days.settle → IsLine days line → MaturesBy2190 line.kind
-line-by days line h is_line = elim is_line [
-  | inl cash ↦ subst MaturesBy2190 (sym cash.kind) tt
-  | inr security ↦ kind-by days line.kind h security.security
-]
 
 -- ---- a line ends by its payments
 -- amounts end on one day

@@ -66,4 +66,4 @@ bootstrapped_prices book = first_prices book (length book.needs)
 
 -- the leaf of a price curve: the cost counts, and the limit has no multiplier
 abbrev pub leaf_of_prices : List ℕ → Leaf
-leaf_of_prices prices = record { rho = PRICE_SCALE; mu = 0; prices = prices }
+leaf_of_prices prices = record { rho = PRICE_SCALE; mu = 0; prices = prices; weights = [] }

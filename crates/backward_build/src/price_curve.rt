@@ -12,7 +12,7 @@ use dual_bound::price_on;
 use escrow_desk::NoMemory;
 use escrow_units::Flow;
 use offer_book::{Book, Line, PayCoefficients};
-use proof_tree::{Leaf, PRICE_SCALE, Prices};
+use proof_tree::{Leaf, PRICE_SCALE, Prices, Weights};
 use std::alloc::Global;
 
 // The payments of one unit of a line, scaled.
@@ -124,5 +124,6 @@ pub fn bootstrap(alloc: Global, book: &Book) -> Result<Option<Leaf>, NoMemory>
         rho: PRICE_SCALE,
         mu: 0,
         prices: Prices::new(prices),
+        weights: Weights::none(alloc),
     }))
 }

@@ -1,5 +1,5 @@
 -- Lines that are due.
-use Rattle.std.proofs.Common.{◌≡◌, ◌∙◌, ℕ, ◌≤◌, Bool, true, false, nat_lt, nat_eq, if◌then◌else◌, List, [], ◌∷◌, ◌++◌, length, slice_index_or, drop, All, refl, sym, subst, ap, arith, Some, None, Result, Ok, Err, codes, decimal}
+use Rattle.std.proofs.Common.{◌≡◌, ◌∙◌, ℕ, ◌≤◌, Bool, true, false, ◌&&◌, nat_lt, nat_eq, if◌then◌else◌, List, [], ◌∷◌, ◌++◌, length, slice_index_or, drop, All, refl, sym, subst, ap, arith, Some, None, Result, Ok, Err, codes, decimal}
 use lib.Pointwise.{pointwise, bytes_decides}
 use Rattle.bound_certificate.specs.declared.fault.FaultKind.{FaultKind}
 use Rattle.bound_certificate.specs.declared.fault.FaultKind.TheVariants as kind
@@ -13,27 +13,36 @@ use Rattle.bound_certificate.specs.declared.version.Version.{Version}
 use Rattle.bound_certificate.specs.declared.version.Version.TheVariants as version
 use Rattle.bound_certificate.specs.declared.weighing.Weighing.{Weighing}
 use Rattle.bound_certificate.specs.declared.weighing.Weighing.TheVariants as weighing
+use Rattle.proof_tree.specs.declared.tree.Part.TheVariants as part
 use Rattle.proof_tree.specs.declared.tree.TheConstants.{GREATEST_UNITS}
+use Rattle.proof_tree.specs.Tree.{IsPart}
 use Rattle.bound_certificate.specs.declared.limits.TheConstants.{GREATEST_GAP, MOST_DATES, MOST_NODES, MOST_VECTORS}
 use Rattle.std.proofs.lemmas.List.{append-nil}
 use Rattle.std.proofs.lemmas.List.Elements.{All-head}
 use Rattle.bound_certificate.specs.Certificate.{IsBuy}
-use Rattle.bound_certificate.specs.Grammar.{begins_with, leaf_row, line_said, most_buys, node_row, row_line, title_word}
+use Rattle.bound_certificate.specs.Grammar.{begins_with, has_sums, leaf_row, leaf_words, line_said, most_buys, node_row, node_said, row_line, title_word}
 use Rattle.bound_certificate.specs.Packed.{IsVector}
 use Rattle.bound_certificate.specs.Row.{row_word}
 use Rattle.bound_certificate.specs.Text.{IsOneLine, spaced_numbers}
-use Rattle.line_words.specs.Words.{first_word}
+use Rattle.bound_certificate.specs.Weights.{IsSayablePart}
+use Rattle.line_words.specs.Words.{first_word, words_of}
 use Rattle.bound_certificate.proofs.LineFacts.{FoundLine, IsClosed, IsLineOf, IsPlainLeaf, IsShort, RowSays, ShowsLine, body, numbers_of_line, row-line-found, row-line-shows, row-shows-line}
 use Rattle.bound_certificate.proofs.PriceFacts.{line_by}
 use Rattle.bound_certificate.proofs.RowFacts.{AreWritten, IsDigit, decimal-digits, row-words}
 use Rattle.bound_certificate.proofs.TableFacts.{row-word}
+use Rattle.bound_certificate.proofs.TailFacts.{FoundLeaf, IsLeafLine, IsTailedLeaf, leaf-found, leaf-shows}
+
+-- how a version says nodes
+abbrev pub weighing_by : Version → Weighing
+weighing_by version.One = weighing.WholeOrNone
+weighing_by (version.Packed w) = w
 
 -- a node's line that may stand in a version
 abbrev pub IsNodeLine : Version → ℕ → List (List ℕ) → Line → Type 0
-IsNodeLine v dates vectors (line.Split number at) = (number ≤ 65_535) × (at ≤ GREATEST_UNITS)
+IsNodeLine v dates vectors (line.Split part at) = IsPart dates part × (at ≤ GREATEST_UNITS) × IsSayablePart (weighing_by v) part
 IsNodeLine v dates vectors line.Point = Unit {0}
 IsNodeLine version.One dates vectors (line.Leaf leaf) = IsPlainLeaf dates leaf
-IsNodeLine (version.Packed w) dates vectors (line.Closed how rho mu vector changes) = IsClosed w dates vectors how rho mu vector changes
+IsNodeLine (version.Packed w) dates vectors (line.Closed how rho mu vector changes weights) = IsClosed w dates vectors how rho mu vector changes weights
 IsNodeLine v dates vectors said = ⊥
 
 -- a line that may stand where it is due
@@ -105,6 +114,7 @@ end_fits v dates vectors trees said none says = absurd says
 -- a node
 abbrev IsNodeRow : Version → Row → Type 0
 IsNodeRow v row.Split = Unit {0}
+IsNodeRow v row.SumSplit = has_sums v ≡ true
 IsNodeRow v row.Point = Unit {0}
 IsNodeRow version.One row.Priced = Unit {0}
 IsNodeRow (version.Packed w) (row.Leaf how) = how ≡ w
@@ -114,24 +124,66 @@ leaf_is : (v : Version) → IsNodeRow v (leaf_row v)
 leaf_is version.One = tt
 leaf_is (version.Packed w) = refl
 
-node_by : (v : Version) (b c : Bool) → IsNodeRow v (if b then row.Split else if c then row.Point else leaf_row v)
-node_by v true c = tt
-node_by v false true = tt
-node_by v false false = leaf_is v
+node_by : (v : Version) (b c d : Bool) → IsNodeRow v (if b then row.Split else if c then row.Point else if has_sums v && d then row.SumSplit else leaf_row v)
+node_by v true c d = tt
+node_by v false true d = tt
+node_by version.One false false d = tt
+node_by (version.Packed weighing.WholeOrNone) false false d = refl
+node_by (version.Packed weighing.Number) false false true = refl
+node_by (version.Packed weighing.Number) false false false = refl
+
+sums_sayable : (v : Version) (sum : ℕ) → has_sums v ≡ true → IsSayablePart (weighing_by v) (part.Sum sum)
+sums_sayable version.One sum h = absurd (cc)
+sums_sayable (version.Packed weighing.WholeOrNone) sum h = absurd (cc)
+sums_sayable (version.Packed weighing.Number) sum h = tt
 
 node_says : (v : Version) (dates : ℕ) (vectors : List (List ℕ)) (r : Row) (said : Line) → IsNodeRow v r → RowSays dates vectors r said → IsNodeLine v dates vectors said
-node_says v dates vectors row.Split (line.Split number at) is says = says
+node_says v dates vectors row.Split (line.Split (part.Line number) at) is says = (says.0, says.1, tt)
+node_says v dates vectors row.SumSplit (line.Split (part.Sum sum) at) is says = (says.0, says.1, sums_sayable v sum is)
 node_says v dates vectors row.Point line.Point is says = tt
 node_says version.One dates vectors row.Priced (line.Leaf leaf) is says = says
-node_says (version.Packed w) dates vectors (row.Leaf u) (line.Closed how rho mu vector changes) is says =
-    let P : Weighing → Type 0 = λ x. IsClosed x dates vectors how rho mu vector changes in subst P is says.1
+node_says (version.Packed w) dates vectors (row.Leaf u) (line.Closed how rho mu vector changes []) is says =
+    let P : Weighing → Type 0 = λ x. IsClosed x dates vectors how rho mu vector changes [] in subst P is says.1
 node_says version.One dates vectors (row.Leaf u) said is says = absurd is
 node_says (version.Packed w) dates vectors row.Priced said is says = absurd is
 node_says v dates vectors row.Split said is says = absurd says
+node_says v dates vectors row.SumSplit said is says = absurd says
 node_says v dates vectors row.Point said is says = absurd says
 node_says version.One dates vectors row.Priced said is says = absurd says
 node_says (version.Packed w) dates vectors (row.Leaf u) said is says = absurd says
 node_says v dates vectors r said is says = absurd is
+
+-- a node's line that is read
+record FoundNode (v : Version) (dates : ℕ) (vectors : List (List ℕ)) (may : Bool) (bytes : List ℕ) (said : Line) : Type 0 where
+  allowed : may ≡ true
+  is : IsNodeLine v dates vectors said
+  bytes_of : bytes ≡ body said
+
+row_node : (v : Version) (dates : ℕ) (vectors : List (List ℕ)) (r : Row) (may : Bool) (bytes : List ℕ) (said : Line) → All (IsVector dates) vectors → length vectors ≤ MOST_VECTORS →
+    IsNodeRow v r → row_line dates vectors r may bytes ≡ Ok said → FoundNode v dates vectors may bytes said
+row_node v dates vectors r may bytes said all few is h =
+    let found : FoundLine dates vectors r may bytes said = row-line-found dates vectors r may bytes said all few h in
+    record { allowed = found.allowed; is = node_says v dates vectors r said is found.says; bytes_of = found.bytes_of }
+
+tailed_node : (dates : ℕ) (vectors : List (List ℕ)) (said : Line) → IsTailedLeaf dates vectors said → IsNodeLine (version.Packed weighing.Number) dates vectors said
+tailed_node dates vectors (line.Closed how rho mu vector changes weights) is = is
+tailed_node dates vectors said is = absurd is
+
+node_found : (v : Version) (dates : ℕ) (vectors : List (List ℕ)) (r : Row) (may : Bool) (bytes : List ℕ) (said : Line) → All (IsVector dates) vectors → length vectors ≤ MOST_VECTORS →
+    IsNodeRow v r → node_said dates vectors r may bytes ≡ Ok said → FoundNode v dates vectors may bytes said
+node_found v dates vectors row.Split may bytes said all few is h = row_node v dates vectors row.Split may bytes said all few is h
+node_found v dates vectors row.SumSplit may bytes said all few is h = row_node v dates vectors row.SumSplit may bytes said all few is h
+node_found v dates vectors row.Point may bytes said all few is h = row_node v dates vectors row.Point may bytes said all few is h
+node_found version.One dates vectors row.Priced may bytes said all few is h = row_node version.One dates vectors row.Priced may bytes said all few is h
+node_found (version.Packed w) dates vectors row.Priced may bytes said all few is h = absurd is
+node_found version.One dates vectors (row.Leaf u) may bytes said all few is h = absurd is
+node_found (version.Packed w) dates vectors (row.Leaf weighing.WholeOrNone) may bytes said all few is h =
+    row_node (version.Packed w) dates vectors (row.Leaf weighing.WholeOrNone) may bytes said all few is h
+node_found (version.Packed w) dates vectors (row.Leaf weighing.Number) may bytes said all few is h =
+    let found : FoundLeaf dates vectors may bytes said = leaf-found dates vectors may bytes said all few h in
+    let P : Weighing → Type 0 = λ u. IsNodeLine (version.Packed u) dates vectors said in
+    record { allowed = found.allowed; is = subst P is (tailed_node dates vectors said found.is); bytes_of = found.bytes_of }
+node_found v dates vectors r may bytes said all few is h = absurd is
 
 some_trees : (trees : ℕ) → nat_lt 0 trees ≡ true → 1 ≤ trees
 some_trees trees h = grind (arith, h)
@@ -166,15 +218,10 @@ line-found v dates vectors due.Count bytes said all few h =
     let found : FoundLine dates vectors row.Nodes true bytes said = row-line-found dates vectors row.Nodes true bytes said all few h in
     record { fits = nodes_fits v dates vectors said found.says; bytes_of = found.bytes_of }
 line-found v dates vectors (due.Node left trees) bytes said all few h =
-    let found : FoundLine dates vectors (node_row v bytes) (nat_lt 0 trees) bytes said = row-line-found dates vectors (node_row v bytes) (nat_lt 0 trees) bytes said all few h in
-    record {
-      fits = (
-        some_trees trees found.allowed,
-        few,
-        node_says v dates vectors (node_row v bytes) said (node_by v (begins_with (codes "s") bytes) (begins_with (codes "p") bytes)) found.says,
-      );
-      bytes_of = found.bytes_of;
-    }
+    let found : FoundNode v dates vectors (nat_lt 0 trees) bytes said =
+    node_found v dates vectors (node_row v bytes) (nat_lt 0 trees) bytes said all few
+    (node_by v (begins_with (codes "s") bytes) (begins_with (codes "p") bytes) (begins_with (codes "t") bytes)) h in
+    record { fits = (some_trees trees found.allowed, few, found.is); bytes_of = found.bytes_of }
 line-found v dates vectors (due.End trees) bytes said all few h = end_found v dates vectors trees bytes said all few _ refl h
 line-found v dates vectors due.Nothing bytes said all few h = absurd (cc)
 
@@ -194,47 +241,72 @@ few_row (version.Packed w) dates few = few
 
 -- the row that a node's line begins
 abbrev row_of_node : Version → Line → Row
-row_of_node v (line.Split number at) = row.Split
+row_of_node v (line.Split (part.Line number) at) = row.Split
+row_of_node v (line.Split (part.Sum sum) at) = row.SumSplit
 row_of_node v line.Point = row.Point
 row_of_node v other = leaf_row v
 
-row_says : (v : Version) (dates : ℕ) (vectors : List (List ℕ)) (said : Line) → length vectors ≤ MOST_VECTORS → IsNodeLine v dates vectors said → RowSays dates vectors (row_of_node v said) said
-row_says v dates vectors (line.Split number at) few is = is
-row_says v dates vectors line.Point few is = tt
-row_says version.One dates vectors (line.Leaf leaf) few is = is
-row_says (version.Packed w) dates vectors (line.Closed how rho mu vector changes) few is = (few, is)
-row_says version.One dates vectors said few is = absurd is
-row_says (version.Packed w) dates vectors said few is = absurd is
+-- a leaf of version 3 alone may have a tail
+abbrev IsBare : Version → Line → Type 0
+IsBare (version.Packed weighing.Number) (line.Closed how rho mu vector changes weights) = ⊥
+IsBare v said = Unit {0}
 
-node_short : (v : Version) (dates : ℕ) (said : Line) → IsFew v dates → IsShort dates (row_of_node v said)
-node_short v dates (line.Split number at) few = tt
-node_short v dates line.Point few = tt
-node_short v dates (line.Closed how rho mu vector changes) few = few_row v dates few
-node_short v dates (line.Leaf leaf) few = few_row v dates few
-node_short v dates (line.Title w) few = few_row v dates few
-node_short v dates (line.Portfolio count) few = few_row v dates few
-node_short v dates (line.Purchase buy) few = few_row v dates few
-node_short v dates (line.Gap cents) few = few_row v dates few
-node_short v dates (line.Vectors count) few = few_row v dates few
-node_short v dates (line.Vector prices) few = few_row v dates few
-node_short v dates (line.Nodes count) few = few_row v dates few
-node_short v dates line.End few = few_row v dates few
+bare_row : (v : Version) (dates : ℕ) (vectors : List (List ℕ)) (said : Line) (may : Bool) (bytes : List ℕ) → IsBare v said → IsNodeLine v dates vectors said →
+    node_said dates vectors (row_of_node v said) may bytes ≡ row_line dates vectors (row_of_node v said) may bytes
+bare_row v dates vectors (line.Split (part.Line number) at) may bytes bare is = refl
+bare_row v dates vectors (line.Split (part.Sum sum) at) may bytes bare is = refl
+bare_row v dates vectors line.Point may bytes bare is = refl
+bare_row version.One dates vectors (line.Leaf leaf) may bytes bare is = refl
+bare_row (version.Packed weighing.WholeOrNone) dates vectors (line.Closed how rho mu vector changes weights) may bytes bare is = refl
+bare_row (version.Packed weighing.Number) dates vectors (line.Closed how rho mu vector changes weights) may bytes bare is = absurd bare
+bare_row version.One dates vectors said may bytes bare is = absurd is
+bare_row (version.Packed w) dates vectors said may bytes bare is = absurd is
+
+row_says : (v : Version) (dates : ℕ) (vectors : List (List ℕ)) (said : Line) → length vectors ≤ MOST_VECTORS → IsBare v said → IsNodeLine v dates vectors said →
+    RowSays dates vectors (row_of_node v said) said
+row_says v dates vectors (line.Split (part.Line number) at) few bare is = (is.0, is.1)
+row_says v dates vectors (line.Split (part.Sum sum) at) few bare is = (is.0, is.1)
+row_says v dates vectors line.Point few bare is = tt
+row_says version.One dates vectors (line.Leaf leaf) few bare is = is
+row_says (version.Packed weighing.WholeOrNone) dates vectors (line.Closed how rho mu vector changes []) few bare is = (few, is)
+row_says (version.Packed weighing.WholeOrNone) dates vectors (line.Closed how rho mu vector changes (own ∷ weights)) few bare is = absurd (let none = is.tail in cc)
+row_says (version.Packed weighing.Number) dates vectors (line.Closed how rho mu vector changes weights) few bare is = absurd bare
+row_says version.One dates vectors said few bare is = absurd is
+row_says (version.Packed w) dates vectors said few bare is = absurd is
+
+node_short : (v : Version) (dates : ℕ) (vectors : List (List ℕ)) (said : Line) → IsFew v dates → IsNodeLine v dates vectors said → IsShort dates (row_of_node v said)
+node_short v dates vectors (line.Split (part.Line number) at) few is = tt
+node_short version.One dates vectors (line.Split (part.Sum sum) at) few is = absurd is.2
+node_short (version.Packed w) dates vectors (line.Split (part.Sum sum) at) few is = few
+node_short v dates vectors line.Point few is = tt
+node_short v dates vectors (line.Closed how rho mu vector changes weights) few is = few_row v dates few
+node_short v dates vectors (line.Leaf leaf) few is = few_row v dates few
+node_short v dates vectors (line.Title w) few is = few_row v dates few
+node_short v dates vectors (line.Portfolio count) few is = few_row v dates few
+node_short v dates vectors (line.Purchase buy) few is = few_row v dates few
+node_short v dates vectors (line.Gap cents) few is = few_row v dates few
+node_short v dates vectors (line.Vectors count) few is = few_row v dates few
+node_short v dates vectors (line.Vector prices) few is = few_row v dates few
+node_short v dates vectors (line.Nodes count) few is = few_row v dates few
+node_short v dates vectors line.End few is = few_row v dates few
 
 beginning : (r : Row) (numbers : List ℕ) → AreWritten numbers → first_word (row_word r ++ spaced_numbers numbers) ≡ row_word r
 beginning r numbers small = ap (λ (ws : List (List ℕ)). slice_index_or ws 0 []) (row-words numbers (row_word r) (row-word r) small)
 
 abbrev named : Version → List ℕ → Row
-named v w = if pointwise nat_eq (codes "s") w then row.Split else if pointwise nat_eq (codes "p") w then row.Point else leaf_row v
-
-leaf_named : (v : Version) → named v (row_word (leaf_row v)) ≡ leaf_row v
-leaf_named version.One = refl
-leaf_named (version.Packed w) = refl
+named v w =
+    if pointwise nat_eq (codes "s") w then row.Split else if pointwise nat_eq (codes "p") w then row.Point
+    else if has_sums v && pointwise nat_eq (codes "t") w then row.SumSplit else leaf_row v
 
 node_named : (v : Version) (dates : ℕ) (vectors : List (List ℕ)) (said : Line) → IsNodeLine v dates vectors said → named v (row_word (row_of_node v said)) ≡ row_of_node v said
-node_named v dates vectors (line.Split number at) is = refl
+node_named v dates vectors (line.Split (part.Line number) at) is = refl
+node_named version.One dates vectors (line.Split (part.Sum sum) at) is = absurd is.2
+node_named (version.Packed weighing.WholeOrNone) dates vectors (line.Split (part.Sum sum) at) is = absurd is.2
+node_named (version.Packed weighing.Number) dates vectors (line.Split (part.Sum sum) at) is = refl
 node_named v dates vectors line.Point is = refl
 node_named version.One dates vectors (line.Leaf leaf) is = refl
-node_named (version.Packed w) dates vectors (line.Closed how rho mu vector changes) is = refl
+node_named (version.Packed weighing.WholeOrNone) dates vectors (line.Closed how rho mu vector changes weights) is = refl
+node_named (version.Packed weighing.Number) dates vectors (line.Closed how rho mu vector changes weights) is = refl
 node_named version.One dates vectors said is = absurd is
 node_named (version.Packed w) dates vectors said is = absurd is
 
@@ -268,16 +340,35 @@ title_shown version.One dates vectors = record { said_is = refl; one = line_by (
 title_shown (version.Packed weighing.WholeOrNone) dates vectors = record { said_is = refl; one = line_by (title_word (version.Packed weighing.WholeOrNone)) refl }
 title_shown (version.Packed weighing.Number) dates vectors = record { said_is = refl; one = line_by (title_word (version.Packed weighing.Number)) refl }
 
-node_shown : (v : Version) (dates left trees : ℕ) (vectors : List (List ℕ)) (said : Line) → IsFew v dates → Fits v dates vectors (due.Node left trees) said →
+bare_shown : (v : Version) (dates left trees : ℕ) (vectors : List (List ℕ)) (said : Line) → IsBare v said → IsFew v dates → Fits v dates vectors (due.Node left trees) said →
     IsShown v dates vectors (due.Node left trees) said
-node_shown v dates left trees vectors said short fits =
+bare_shown v dates left trees vectors said bare short fits =
     let r : Row = row_of_node v said in
-    let says : RowSays dates vectors r said = row_says v dates vectors said fits.1 fits.2 in
-    let is_short : IsShort dates r = node_short v dates said short in
+    let says : RowSays dates vectors r said = row_says v dates vectors said fits.1 bare fits.2 in
+    let is_short : IsShort dates r = node_short v dates vectors said short fits.2 in
     let found : node_row v (body said) ≡ r = node_row_of v dates vectors said fits.2 (row-shows-line dates vectors r said is_short says) in
     let may : nat_lt 0 trees ≡ true = grind (arith, fits.0) in
     row_shown v dates vectors (due.Node left trees) r said is_short says
-    (ap (λ (s : Row). row_line dates vectors s (nat_lt 0 trees) (body said)) found ∙ ap (λ (b : Bool). row_line dates vectors r b (body said)) may)
+    (ap (λ (s : Row). node_said dates vectors s (nat_lt 0 trees) (body said)) found ∙ ap (λ (b : Bool). node_said dates vectors r b (body said)) may
+    ∙ bare_row v dates vectors said true (body said) bare fits.2)
+
+tailed_shown : (dates left trees : ℕ) (vectors : List (List ℕ)) (said : Line) → dates ≤ MOST_DATES → 1 ≤ trees → length vectors ≤ MOST_VECTORS → IsTailedLeaf dates vectors said →
+    IsShown (version.Packed weighing.Number) dates vectors (due.Node left trees) said
+tailed_shown dates left trees vectors said short some few is =
+    let leaf : IsLeafLine dates vectors said = leaf-shows dates vectors said short few is in
+    let may : nat_lt 0 trees ≡ true = grind (arith, some) in
+    record {
+      said_is =
+          ap (λ (w : List ℕ). node_said dates vectors (named (version.Packed weighing.Number) w) (nat_lt 0 trees) (body said)) leaf.first
+          ∙ ap (λ (b : Bool). leaf_words dates vectors b (words_of (body said))) may ∙ leaf.said_is;
+      one = leaf.one;
+    }
+
+node_shown : (v : Version) (dates left trees : ℕ) (vectors : List (List ℕ)) (said : Line) → IsFew v dates → Fits v dates vectors (due.Node left trees) said →
+    IsShown v dates vectors (due.Node left trees) said
+node_shown (version.Packed weighing.Number) dates left trees vectors (line.Closed how rho mu vector changes weights) short fits =
+    tailed_shown dates left trees vectors (line.Closed how rho mu vector changes weights) short fits.0 fits.1 fits.2
+node_shown v dates left trees vectors said short fits = bare_shown v dates left trees vectors said tt short fits
 
 pub line-shows : (v : Version) (dates : ℕ) (vectors : List (List ℕ)) (d : Due) (said : Line) → IsFew v dates → Fits v dates vectors d said → IsShown v dates vectors d said
 line-shows v dates vectors due.Title (line.Title w) short fits =

@@ -6,6 +6,7 @@ use Rattle.std.proofs.lemmas.List.Sums.{fold-append}
 use Rattle.std.proofs.lemmas.List.Elements.{All-cons, All-head, All-nil, All-tail}
 use Rattle.std.proofs.lemmas.List.Kept.{AllPairs-cons}
 use Rattle.proof_tree.specs.declared.tree.Leaf.{Leaf}
+use Rattle.proof_tree.specs.declared.tree.Part.{Part}
 use Rattle.proof_tree.specs.declared.tree.TreeNode.{TreeNode}
 use Rattle.proof_tree.specs.declared.tree.TreeNode.TheVariants as tree
 use Rattle.proof_tree.specs.Tree.{AreTrees}
@@ -32,11 +33,11 @@ pub record Written : Type 0 where
   pub nodes : List Line
 
 -- the node of a node's line, with its prices written out
-abbrev pub tree_of : List (List ℕ) → Line → TreeNode
-tree_of vectors (line.Split number at) = tree.Split number at
-tree_of vectors (line.Closed how rho mu vector changes) = tree.Closed (leaf_with vectors rho mu vector changes)
-tree_of vectors (line.Leaf leaf) = tree.Closed leaf
-tree_of vectors other = tree.Point
+abbrev pub tree_of : ℕ → List (List ℕ) → Line → TreeNode
+tree_of dates vectors (line.Split part at) = tree.Split part at
+tree_of dates vectors (line.Closed how rho mu vector changes weights) = tree.Closed (leaf_with dates vectors rho mu vector changes weights)
+tree_of dates vectors (line.Leaf leaf) = tree.Closed leaf
+tree_of dates vectors other = tree.Point
 
 -- without a portfolio there is no gap
 abbrev pub IsPortfolioOf : Version → Option (List Buy) → ℕ → Type 0
@@ -53,7 +54,7 @@ pub record IsWritten (v : Version) (dates : ℕ) (w : Written) : Type 0 where
   pub vectors_are : AreVectorsOf v dates w.vectors
   pub few : length w.nodes ≤ MOST_NODES
   pub nodes_are : All (IsNodeLine v dates w.vectors) w.nodes
-  pub tree : AreTrees 1 (map (tree_of w.vectors) w.nodes)
+  pub tree : AreTrees 1 (map (tree_of dates w.vectors) w.nodes)
 
 abbrev pub written_lines : Version → Written → List Line
 written_lines v w = lines_of v w.buys w.gap w.vectors w.nodes
@@ -66,9 +67,9 @@ pub some_left : (left : ℕ) → (left == 0) ≡ false → 1 ≤ left
 some_left zero h = absurd (cc)
 some_left (suc left) h = omega arith
 
-split_closes : (trees line at : ℕ) (more : List TreeNode) → 1 ≤ trees → AreTrees (trees + 1) more → AreTrees trees (tree.Split line at ∷ more)
-split_closes zero line at more some are = absurd (omega arith)
-split_closes (suc others) line at more some are =
+split_closes : (trees : ℕ) (part : Part) (at : ℕ) (more : List TreeNode) → 1 ≤ trees → AreTrees (trees + 1) more → AreTrees trees (tree.Split part at ∷ more)
+split_closes zero part at more some are = absurd (omega arith)
+split_closes (suc others) part at more some are =
     let P : ℕ → Type 0 = λ k. AreTrees k more in
     let same : suc others + 1 ≡ suc (suc others) = omega arith in subst P same are
 
@@ -156,13 +157,13 @@ less_due : (left others : ℕ) → nodes_due left (suc others - 1) ≡ nodes_due
 less_due left others = let less : suc others - 1 ≡ others = omega arith in ap (λ (k : ℕ). nodes_due left k) less
 
 nodes-follow : (v : Version) (dates : ℕ) (vectors : List (List ℕ)) (nodes : List Line) (trees : ℕ) (rest : List Line) → length vectors ≤ MOST_VECTORS →
-    All (IsNodeLine v dates vectors) nodes → AreTrees trees (map (tree_of vectors) nodes) → Follows v dates (due.End 0) vectors rest →
+    All (IsNodeLine v dates vectors) nodes → AreTrees trees (map (tree_of dates vectors) nodes) → Follows v dates (due.End 0) vectors rest →
     Follows v dates (nodes_due (length nodes) trees) vectors (nodes ++ rest)
 nodes-follow v dates vectors [] zero rest few all are follows = follows
 nodes-follow v dates vectors [] (suc others) rest few all are follows = absurd are
 nodes-follow v dates vectors (said ∷ nodes) zero rest few all are follows = absurd (cc)
-nodes-follow v dates vectors (line.Split number at ∷ nodes) (suc others) rest few all are follows =
-    let said : Line = line.Split number at in
+nodes-follow v dates vectors (line.Split part at ∷ nodes) (suc others) rest few all are follows =
+    let said : Line = line.Split part at in
     let more : suc others + 1 ≡ suc (suc others) = omega arith in
     node-first v dates vectors said nodes (suc others) (suc (suc others)) rest few (All-head (IsNodeLine v dates vectors) said nodes all) (omega arith)
     (ap (λ (k : ℕ). nodes_due (suc (length nodes) - 1) k) more) refl
@@ -171,8 +172,8 @@ nodes-follow v dates vectors (line.Point ∷ nodes) (suc others) rest few all ar
     let said : Line = line.Point in
     node-first v dates vectors said nodes (suc others) others rest few (All-head (IsNodeLine v dates vectors) said nodes all) (omega arith)
     (less_due (suc (length nodes) - 1) others) refl (nodes-follow v dates vectors nodes others rest few (All-tail (IsNodeLine v dates vectors) said nodes all) are follows)
-nodes-follow v dates vectors (line.Closed how rho mu vector changes ∷ nodes) (suc others) rest few all are follows =
-    let said : Line = line.Closed how rho mu vector changes in
+nodes-follow v dates vectors (line.Closed how rho mu vector changes weights ∷ nodes) (suc others) rest few all are follows =
+    let said : Line = line.Closed how rho mu vector changes weights in
     node-first v dates vectors said nodes (suc others) others rest few (All-head (IsNodeLine v dates vectors) said nodes all) (omega arith)
     (less_due (suc (length nodes) - 1) others) refl (nodes-follow v dates vectors nodes others rest few (All-tail (IsNodeLine v dates vectors) said nodes all) are follows)
 nodes-follow v dates vectors (line.Leaf leaf ∷ nodes) (suc others) rest few all are follows =
@@ -181,17 +182,17 @@ nodes-follow v dates vectors (line.Leaf leaf ∷ nodes) (suc others) rest few al
     (less_due (suc (length nodes) - 1) others) refl (nodes-follow v dates vectors nodes others rest few (All-tail (IsNodeLine v dates vectors) said nodes all) are follows)
 nodes-follow v dates vectors (said ∷ nodes) (suc others) rest few all are follows = absurd (All-head (IsNodeLine v dates vectors) said nodes all)
 
-some_nodes : (vectors : List (List ℕ)) (nodes : List Line) → AreTrees 1 (map (tree_of vectors) nodes) → 1 ≤ length nodes
-some_nodes vectors [] are = absurd are
-some_nodes vectors (said ∷ nodes) are = omega arith
+some_nodes : (dates : ℕ) (vectors : List (List ℕ)) (nodes : List Line) → AreTrees 1 (map (tree_of dates vectors) nodes) → 1 ≤ length nodes
+some_nodes dates vectors [] are = absurd are
+some_nodes dates vectors (said ∷ nodes) are = omega arith
 
 abbrev pub tree_lines : List Line → List Line
 tree_lines nodes = line.Nodes (length nodes) ∷ (nodes ++ line.End ∷ [])
 
 tree-follows : (v : Version) (dates : ℕ) (vectors : List (List ℕ)) (nodes : List Line) → length vectors ≤ MOST_VECTORS → length nodes ≤ MOST_NODES →
-    All (IsNodeLine v dates vectors) nodes → AreTrees 1 (map (tree_of vectors) nodes) → Follows v dates due.Count vectors (tree_lines nodes)
+    All (IsNodeLine v dates vectors) nodes → AreTrees 1 (map (tree_of dates vectors) nodes) → Follows v dates due.Count vectors (tree_lines nodes)
 tree-follows v dates vectors nodes few short all are =
-    ((some_nodes vectors nodes are, short), nodes-follow v dates vectors nodes 1 (line.End ∷ []) few all are (refl, refl))
+    ((some_nodes dates vectors nodes are, short), nodes-follow v dates vectors nodes 1 (line.End ∷ []) few all are (refl, refl))
 
 rest-follows : (v : Version) (dates : ℕ) (w : Written) → IsWritten v dates w → Follows v dates (tree_due v) [] (vector_lines v w.vectors ++ tree_lines w.nodes)
 rest-follows version.One dates w is =
@@ -318,7 +319,7 @@ pub record AreNodeLines (v : Version) (dates left trees : ℕ) (vectors : List (
   pub are : lines ≡ nodes ++ line.End ∷ []
   pub count : length nodes ≡ left
   pub range : All (IsNodeLine v dates vectors) nodes
-  pub tree : AreTrees trees (map (tree_of vectors) nodes)
+  pub tree : AreTrees trees (map (tree_of dates vectors) nodes)
 
 last_line : (v : Version) (dates : ℕ) (vectors : List (List ℕ)) (lines : List Line) → Follows v dates due.Nothing vectors lines → lines ≡ []
 last_line v dates vectors [] follows = refl
@@ -330,14 +331,14 @@ end_line v dates trees vectors (line.End ∷ lines) follows = (follows.0, ap (λ
 end_line v dates trees vectors (other ∷ lines) follows = absurd follows.0
 
 node_before : (v : Version) (dates left trees next : ℕ) (vectors : List (List ℕ)) (said : Line) (lines : List Line) → IsNodeLine v dates vectors said →
-    ((more : List TreeNode) → AreTrees next more → AreTrees trees (tree_of vectors said ∷ more)) →
+    ((more : List TreeNode) → AreTrees next more → AreTrees trees (tree_of dates vectors said ∷ more)) →
     AreNodeLines v dates left next vectors lines → AreNodeLines v dates (suc left) trees vectors (said ∷ lines)
 node_before v dates left trees next vectors said lines is closes are = record {
   nodes = said ∷ are.nodes;
   are = ap (λ (ls : List Line). said ∷ ls) are.are;
   count = ap suc are.count;
   range = All-cons (IsNodeLine v dates vectors) said are.nodes is are.range;
-  tree = closes (map (tree_of vectors) are.nodes) are.tree;
+  tree = closes (map (tree_of dates vectors) are.nodes) are.tree;
 }
 
 -- behind a node the others are due
@@ -363,20 +364,20 @@ nodes-split v dates zero trees vectors lines follows =
     let P : ℕ → Type 0 = λ k. AreTrees k [] in
     record { nodes = []; are = last.1; count = refl; range = All-nil (IsNodeLine v dates vectors); tree = subst P (sym last.0) refl }
 nodes-split v dates (suc left) trees vectors [] follows = absurd (let P : Due → Type 0 = λ d. is_over d ≡ true in let bad : false ≡ true = subst P (sym (some_nodes_due left trees)) follows in cc)
-nodes-split v dates (suc left) trees vectors (line.Split number at ∷ lines) follows =
-    let said : Line = line.Split number at in
+nodes-split v dates (suc left) trees vectors (line.Split part at ∷ lines) follows =
+    let said : Line = line.Split part at in
     let here : Follows v dates (due.Node (suc left) trees) vectors (said ∷ lines) = node-here v dates left trees vectors said lines follows in
-    node_before v dates left trees (trees + 1) vectors said lines here.0.2 (λ more are. split_closes trees number at more here.0.0 are)
+    node_before v dates left trees (trees + 1) vectors said lines here.0.2 (λ more are. split_closes trees part at more here.0.0 are)
     (nodes-split v dates left (trees + 1) vectors lines (node-behind v dates left trees (trees + 1) vectors said lines here refl refl))
 nodes-split v dates (suc left) trees vectors (line.Point ∷ lines) follows =
     let said : Line = line.Point in
     let here : Follows v dates (due.Node (suc left) trees) vectors (said ∷ lines) = node-here v dates left trees vectors said lines follows in
     node_before v dates left trees (trees - 1) vectors said lines here.0.2 (λ more are. point_closes trees more here.0.0 are)
     (nodes-split v dates left (trees - 1) vectors lines (node-behind v dates left trees (trees - 1) vectors said lines here refl refl))
-nodes-split v dates (suc left) trees vectors (line.Closed how rho mu vector changes ∷ lines) follows =
-    let said : Line = line.Closed how rho mu vector changes in
+nodes-split v dates (suc left) trees vectors (line.Closed how rho mu vector changes weights ∷ lines) follows =
+    let said : Line = line.Closed how rho mu vector changes weights in
     let here : Follows v dates (due.Node (suc left) trees) vectors (said ∷ lines) = node-here v dates left trees vectors said lines follows in
-    node_before v dates left trees (trees - 1) vectors said lines here.0.2 (λ more are. leaf_closes trees (leaf_with vectors rho mu vector changes) more here.0.0 are)
+    node_before v dates left trees (trees - 1) vectors said lines here.0.2 (λ more are. leaf_closes trees (leaf_with dates vectors rho mu vector changes weights) more here.0.0 are)
     (nodes-split v dates left (trees - 1) vectors lines (node-behind v dates left trees (trees - 1) vectors said lines here refl refl))
 nodes-split v dates (suc left) trees vectors (line.Leaf leaf ∷ lines) follows =
     let said : Line = line.Leaf leaf in
@@ -391,7 +392,7 @@ pub record AreTreeLines (v : Version) (dates : ℕ) (vectors : List (List ℕ)) 
   pub are : lines ≡ tree_lines nodes
   pub few : length nodes ≤ MOST_NODES
   pub range : All (IsNodeLine v dates vectors) nodes
-  pub tree : AreTrees 1 (map (tree_of vectors) nodes)
+  pub tree : AreTrees 1 (map (tree_of dates vectors) nodes)
 
 tree-split : (v : Version) (dates : ℕ) (vectors : List (List ℕ)) (lines : List Line) → Follows v dates due.Count vectors lines → AreTreeLines v dates vectors lines
 tree-split v dates vectors [] follows = absurd (let bad : false ≡ true = follows in cc)
@@ -416,7 +417,7 @@ pub record AreRestLines (v : Version) (dates most : ℕ) (lines : List Line) : T
   pub vectors_are : AreVectorsOf v dates vectors
   pub few : length nodes ≤ MOST_NODES
   pub nodes_are : All (IsNodeLine v dates vectors) nodes
-  pub tree : AreTrees 1 (map (tree_of vectors) nodes)
+  pub tree : AreTrees 1 (map (tree_of dates vectors) nodes)
 
 rest-split : (v : Version) (dates most : ℕ) (lines : List Line) → Follows v dates (due.Gap most) [] lines → AreRestLines v dates most lines
 rest-split version.One dates most (line.Gap cents ∷ lines) follows =
@@ -506,9 +507,9 @@ and_line w (line.Portfolio (Some count)) = record { buys = Some []; gap = w.gap;
 and_line w (line.Purchase buy) = record { buys = option_map (λ buys. buys ++ buy ∷ []) w.buys; gap = w.gap; vectors = w.vectors; nodes = w.nodes }
 and_line w (line.Gap cents) = record { buys = w.buys; gap = cents; vectors = w.vectors; nodes = w.nodes }
 and_line w (line.Vector prices) = record { buys = w.buys; gap = w.gap; vectors = w.vectors ++ prices ∷ []; nodes = w.nodes }
-and_line w (line.Split number at) = record { buys = w.buys; gap = w.gap; vectors = w.vectors; nodes = w.nodes ++ line.Split number at ∷ [] }
+and_line w (line.Split part at) = record { buys = w.buys; gap = w.gap; vectors = w.vectors; nodes = w.nodes ++ line.Split part at ∷ [] }
 and_line w line.Point = record { buys = w.buys; gap = w.gap; vectors = w.vectors; nodes = w.nodes ++ line.Point ∷ [] }
-and_line w (line.Closed how rho mu vector changes) = record { buys = w.buys; gap = w.gap; vectors = w.vectors; nodes = w.nodes ++ line.Closed how rho mu vector changes ∷ [] }
+and_line w (line.Closed how rho mu vector changes weights) = record { buys = w.buys; gap = w.gap; vectors = w.vectors; nodes = w.nodes ++ line.Closed how rho mu vector changes weights ∷ [] }
 and_line w (line.Leaf leaf) = record { buys = w.buys; gap = w.gap; vectors = w.vectors; nodes = w.nodes ++ line.Leaf leaf ∷ [] }
 and_line w other = w
 
@@ -539,9 +540,9 @@ vectors-fold (vector ∷ vectors) w =
 
 -- a node's line adds itself
 one-node : (v : Version) (dates : ℕ) (vectors : List (List ℕ)) (w : Written) (said : Line) → IsNodeLine v dates vectors said → and_line w said ≡ with_nodes w (w.nodes ++ said ∷ [])
-one-node v dates vectors w (line.Split number at) is = refl
+one-node v dates vectors w (line.Split part at) is = refl
 one-node v dates vectors w line.Point is = refl
-one-node v dates vectors w (line.Closed how rho mu vector changes) is = refl
+one-node v dates vectors w (line.Closed how rho mu vector changes weights) is = refl
 one-node v dates vectors w (line.Leaf leaf) is = refl
 one-node v dates vectors w said is = absurd is
 
@@ -583,8 +584,8 @@ with-vectors w (line.Gap cents) = refl
 with-vectors w (line.Vectors count) = refl
 with-vectors w (line.Vector prices) = refl
 with-vectors w (line.Nodes count) = refl
-with-vectors w (line.Split number at) = refl
+with-vectors w (line.Split part at) = refl
 with-vectors w line.Point = refl
-with-vectors w (line.Closed how rho mu vector changes) = refl
+with-vectors w (line.Closed how rho mu vector changes weights) = refl
 with-vectors w (line.Leaf leaf) = refl
 with-vectors w line.End = refl

@@ -4,6 +4,11 @@ pub mod FollowFacts
 pub mod LineFacts
 pub mod LoopFacts
 pub mod NearFacts
+pub mod StairFacts
+pub mod TailFacts
+pub mod TailLoops
+pub mod TailedFacts
+pub mod WeightFacts
 pub mod PartFacts
 pub mod PriceFacts
 pub mod RowFacts
@@ -14,6 +19,7 @@ pub mod VersionFacts
 pub mod WrittenFacts
 pub mod ReadRowFacts
 pub mod LongFacts
+pub mod LongLeafFacts
 pub mod TakenFacts
 pub mod MoveFacts
 pub mod ReadFacts
@@ -24,3 +30,4 @@ pub mod WholeTextFacts
 pub mod WriteFacts
 pub mod PackableFacts
 pub mod SizeFacts
+pub mod SeenFacts

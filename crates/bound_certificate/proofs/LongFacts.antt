@@ -1,5 +1,5 @@
 -- A line that is longer than any right one.
-use Rattle.std.proofs.Common.{◌≡◌, ◌∙◌, ℕ, ◌+◌, ◌*◌, ◌<◌, ◌≤◌, Bool, true, false, ◌&&◌, not, nat_eq, nat_lt, if◌then◌else◌, List, [], ◌∷◌, ◌++◌, length, drop, map, count_by, refl, sym, ap, arith, subst, Option, Some, None, Result, Ok, Err, slice_index_or, decimal, codes}
+use Rattle.std.proofs.Common.{◌≡◌, ◌∙◌, ℕ, ◌+◌, ◌-◌, ◌*◌, ◌<◌, ◌≤◌, Bool, true, false, ◌&&◌, not, nat_eq, if◌then◌else◌, List, [], ◌∷◌, ◌++◌, length, drop, map, count_by, refl, sym, ap, arith, subst, Option, Some, None, Result, Ok, Err, slice_index_or, decimal, codes}
 use Rattle.std.specs.List.{join_with_byte, onto_first}
 use lib.Pointwise.{pointwise, bytes_decides}
 use Rattle.std.proofs.lemmas.Fmt.{length-decimal-le}
@@ -9,19 +9,20 @@ use Rattle.bound_certificate.specs.declared.due.Due.TheVariants as due
 use Rattle.line_words.specs.declared.range.Range.{Range}
 use Rattle.bound_certificate.specs.declared.fault.FaultKind.{FaultKind}
 use Rattle.bound_certificate.specs.declared.fault.FaultKind.TheVariants as kind
-use Rattle.bound_certificate.specs.declared.limits.TheConstants.{LINE_ROOM, MOST_DATES, MOST_NUMBERS, SPACES_COUNTED}
+use Rattle.bound_certificate.specs.declared.limits.TheConstants.{LINE_ROOM, MOST_DATES, MOST_NUMBERS}
 use Rattle.bound_certificate.specs.declared.row.Row.{Row}
 use Rattle.bound_certificate.specs.declared.row.Row.TheVariants as row
 use Rattle.bound_certificate.specs.declared.line.Line.TheVariants as line_of
 use Rattle.bound_certificate.specs.declared.version.Version.{Version}
 use Rattle.bound_certificate.specs.declared.version.Version.TheVariants as version
 use Rattle.bound_certificate.specs.declared.weighing.Weighing.TheVariants as weighing
-use Rattle.bound_certificate.specs.Grammar.{begins_with, leaf_row, line_said, node_row, row_line, said_or, title_version, title_weighing, title_word}
-use Rattle.bound_certificate.specs.LongLine.{IsCounted, IsLongLine}
+use Rattle.bound_certificate.specs.Grammar.{begins_with, has_sums, leaf_row, line_said, node_row, row_line, said_or, title_version, title_weighing, title_word}
+use Rattle.bound_certificate.specs.LongLine.{IsLongLine}
+use Rattle.bound_certificate.specs.declared.seen.Seen.{Seen}
 use Rattle.bound_certificate.specs.Row.{numbers_by, numbers_or, row_fits, row_range, row_said, row_word, row_words}
 use Rattle.line_words.specs.Words.{first_word, is_space, words_of}
 use Rattle.line_words.proofs.LaneFacts.{less}
-use Rattle.bound_certificate.proofs.ReadRowFacts.{few-numbers, spaces}
+use Rattle.bound_certificate.proofs.ReadRowFacts.{few-numbers}
 use Rattle.bound_certificate.proofs.RowFacts.{AreWritten}
 use Rattle.bound_certificate.proofs.TableFacts.{by-found}
 
@@ -55,14 +56,14 @@ begins_head (byte ∷ bytes) word more h =
     head_by word byte bytes more _ refl (λ x rest e. begins_head bytes rest more (omega (arith, h, ap length e)))
 
 -- the line's first bytes tell whether a word begins it that is shorter than they
-pub long-begins : (word head line : List ℕ) (spaces : ℕ) → IsLongLine head spaces line → length word ≤ 20 → begins_with word line ≡ begins_with word head
-long-begins word head line spaces is few =
+pub long-begins : (word head line : List ℕ) (seen : Seen) → IsLongLine head seen line → length word ≤ 20 → begins_with word line ≡ begins_with word head
+long-begins word head line seen is few =
     let whole : head ++ drop LINE_ROOM line ≡ line = ap (λ (h : List ℕ). h ++ drop LINE_ROOM line) is.front ∙ take-append-drop LINE_ROOM line in
     let room : length head ≡ LINE_ROOM = ap length is.front ∙ length-take-le LINE_ROOM line (omega (arith, is.long)) in
     ap (λ (l : List ℕ). begins_with word l) (sym whole) ∙ begins_head head word (drop LINE_ROOM line) (omega (arith, few, room))
 
 -- words of at most 16 bytes
-abbrev AreShort : List (List ℕ) → Type 0
+abbrev pub AreShort : List (List ℕ) → Type 0
 AreShort [] = Unit {0}
 AreShort (word ∷ words) = (length word ≤ 16) × AreShort words
 
@@ -72,8 +73,8 @@ short_join (word ∷ words) first short =
     let count : length (first ++ 32 ∷ join_with_byte 32 (word ∷ words)) ≡ length first + length (32 ∷ join_with_byte 32 (word ∷ words)) = length-append first (32 ∷ join_with_byte 32 (word ∷ words)) in
     omega (arith, count, short.0, short_join words word short.1)
 
-short_line : (line first : List ℕ) (others : List (List ℕ)) → words_of line ≡ first ∷ others → AreShort others → length line ≤ length first + 17 * length others
-short_line line first others words short =
+pub short-line : (line first : List ℕ) (others : List (List ℕ)) → words_of line ≡ first ∷ others → AreShort others → length line ≤ length first + 17 * length others
+short-line line first others words short =
     let same : join_with_byte 32 (first ∷ others) ≡ line = ap (λ (ws : List (List ℕ)). join_with_byte 32 ws) (sym words) ∙ join_with_byte-slice_split 32 line in
     omega (arith, ap length same, short_join others first short)
 
@@ -81,8 +82,8 @@ short_written : (numbers : List ℕ) → AreWritten numbers → AreShort (map de
 short_written [] few = tt
 short_written (number ∷ numbers) few = (length-decimal-le 16 number (omega arith) (omega (arith, few.0)) (omega (arith, few.0)), short_written numbers few.1)
 
-short_by : (range : ℕ → Range) (place : ℕ) (words : List (List ℕ)) (numbers : List ℕ) → numbers_by range place words ≡ Some numbers → AreShort words
-short_by range place words numbers h = let are = by-found range place words numbers h in subst AreShort (sym are.texts) (short_written numbers are.small)
+pub short-by : (range : ℕ → Range) (place : ℕ) (words : List (List ℕ)) (numbers : List ℕ) → numbers_by range place words ≡ Some numbers → AreShort words
+short-by range place words numbers h = let are = by-found range place words numbers h in subst AreShort (sym are.texts) (short_written numbers are.small)
 
 none_by : (o : Option (List ℕ)) → ((numbers : List ℕ) → o ≡ Some numbers → ⊥) → o ≡ None
 none_by None never = refl
@@ -96,123 +97,109 @@ parted : (words : List (List ℕ)) → 1 ≤ length words → words ≡ slice_in
 parted [] some = absurd (omega (arith, some))
 parted (first ∷ others) some = refl
 
-line_parted : (line : List ℕ) → words_of line ≡ first_word line ∷ others_of line
-line_parted line = parted (words_of line) (omega (arith, length-slice_split is_space line))
+pub line-parted : (line : List ℕ) → words_of line ≡ first_word line ∷ others_of line
+line-parted line = parted (words_of line) (omega (arith, length-slice_split is_space line))
 
 other_words : (line : List ℕ) → length (others_of line) ≡ count_by is_space line
 other_words line =
-    let count : 1 + length (others_of line) ≡ count_by is_space line + 1 = omega (arith, sym (ap length (line_parted line)), length-slice_split is_space line) in omega (arith, count)
+    let count : 1 + length (others_of line) ≡ count_by is_space line + 1 = omega (arith, sym (ap length (line-parted line)), length-slice_split is_space line) in omega (arith, count)
 
-row_length : (r : Row) → length (row_word r) ≤ 20
-row_length (row.Portfolio most) = omega arith
-row_length (row.Buy least) = omega arith
-row_length (row.Gap most) = omega arith
-row_length row.Vectors = omega arith
-row_length row.Vector = omega arith
-row_length row.Nodes = omega arith
-row_length row.Split = omega arith
-row_length row.Point = omega arith
-row_length row.Priced = omega arith
-row_length (row.Leaf how) = omega arith
-row_length row.End = omega arith
-
--- so many spaces as don't fit need not be counted
-unfit_by : (dates count : ℕ) (r : Row) (b : Bool) → row_fits dates r count ≡ b → dates ≤ MOST_DATES → SPACES_COUNTED ≤ count → b ≡ false
-unfit_by dates count r false e few many = refl
-unfit_by dates count r true e few many = absurd (omega (arith, many, few-numbers dates count r few e))
-
-fits_by : (dates count spaces : ℕ) (r : Row) (b : Bool) → nat_lt count SPACES_COUNTED ≡ b → IsCounted count spaces → dates ≤ MOST_DATES → row_fits dates r count ≡ row_fits dates r spaces
-fits_by dates count spaces r true e is few = let small : count < SPACES_COUNTED = grind (arith, e) in ap (λ (k : ℕ). row_fits dates r k) (sym (is.few small))
-fits_by dates count spaces r false e is few =
-    let many : SPACES_COUNTED ≤ count = grind (arith, e) in unfit_by dates count r _ refl few many ∙ sym (unfit_by dates spaces r _ refl few (is.many many))
-
-long_fits : (dates : ℕ) (r : Row) (head line : List ℕ) (spaces : ℕ) → IsLongLine head spaces line → dates ≤ MOST_DATES → row_fits dates r (length (others_of line)) ≡ row_fits dates r spaces
-long_fits dates r head line spaces is few =
-    ap (λ (k : ℕ). row_fits dates r k) (other_words line) ∙ fits_by dates (count_by is_space line) spaces r _ refl is.counted few
+pub row-length : (r : Row) → length (row_word r) ≤ 20
+row-length (row.Portfolio most) = omega arith
+row-length (row.Buy least) = omega arith
+row-length (row.Gap most) = omega arith
+row-length row.Vectors = omega arith
+row-length row.Vector = omega arith
+row-length row.Nodes = omega arith
+row-length row.Split = omega arith
+row-length row.SumSplit = omega arith
+row-length row.Point = omega arith
+row-length row.Priced = omega arith
+row-length (row.Leaf how) = omega arith
+row-length row.Tail = omega arith
+row-length row.End = omega arith
 
 -- what a long line of a row says is by its words
-long_row : (dates vectors : ℕ) (r : Row) (may : Bool) (head line : List ℕ) (spaces : ℕ) (b : Bool) → IsLongLine head spaces line → begins_with (row_word r) head ≡ b →
+long_row : (dates vectors : ℕ) (r : Row) (may : Bool) (head line : List ℕ) (seen : Seen) (b : Bool) → IsLongLine head seen line → begins_with (row_word r) head ≡ b →
     row_said dates vectors r may line
     ≡ (if not b then Err kind.Header else if not (may && row_fits dates r (length (others_of line))) then Err kind.Count
     else numbers_or (numbers_by (row_range dates vectors r) 1 (others_of line)))
-long_row dates vectors r may head line spaces b is h =
-    ap (λ (ws : List (List ℕ)). row_words dates vectors r may ws) (line_parted line)
+long_row dates vectors r may head line seen b is h =
+    ap (λ (ws : List (List ℕ)). row_words dates vectors r may ws) (line-parted line)
     ∙ ap (λ (c : Bool). if not c then Err kind.Header else if not (may && row_fits dates r (length (others_of line))) then Err kind.Count
-    else numbers_or (numbers_by (row_range dates vectors r) 1 (others_of line))) (long-begins (row_word r) head line spaces is (row_length r) ∙ h)
+    else numbers_or (numbers_by (row_range dates vectors r) 1 (others_of line))) (long-begins (row_word r) head line seen is (row-length r) ∙ h)
 
 row_err : (dates : ℕ) (vectors : List (List ℕ)) (r : Row) (may : Bool) (line : List ℕ) (found : FaultKind) → row_said dates (length vectors) r may line ≡ Err found →
     row_line dates vectors r may line ≡ Err found
-row_err dates vectors r may line found h = ap (λ (said : Result (List ℕ) FaultKind). said_or vectors r said) h
+row_err dates vectors r may line found h = ap (λ (said : Result (List ℕ) FaultKind). said_or dates vectors r said) h
 
-pub long-row-header : (dates : ℕ) (vectors : List (List ℕ)) (r : Row) (may : Bool) (head line : List ℕ) (spaces : ℕ) → IsLongLine head spaces line →
+pub no-may : (b c : Bool) → b ≡ false → (b && c) ≡ false
+no-may true c h = absurd (cc)
+no-may false c h = refl
+
+pub no-fit : (b c : Bool) → c ≡ false → (b && c) ≡ false
+no-fit true c h = h
+no-fit false c h = refl
+
+pub both-hold : (b c : Bool) → b ≡ true → c ≡ true → (b && c) ≡ true
+both-hold true c g h = h
+both-hold false c g h = absurd (cc)
+
+-- ---- a line without a tail
+pub row-header : (dates : ℕ) (vectors : List (List ℕ)) (r : Row) (may : Bool) (head line : List ℕ) (seen : Seen) → IsLongLine head seen line →
     begins_with (row_word r) head ≡ false → row_line dates vectors r may line ≡ Err kind.Header
-long-row-header dates vectors r may head line spaces is other =
-    row_err dates vectors r may line kind.Header (long_row dates (length vectors) r may head line spaces false is other)
+row-header dates vectors r may head line seen is other =
+    row_err dates vectors r may line kind.Header (long_row dates (length vectors) r may head line seen false is other)
 
-no_may : (b c : Bool) → b ≡ false → (b && c) ≡ false
-no_may true c h = absurd (cc)
-no_may false c h = refl
-
-no_fit : (b c : Bool) → c ≡ false → (b && c) ≡ false
-no_fit true c h = h
-no_fit false c h = refl
-
-both_hold : (b c : Bool) → b ≡ true → c ≡ true → (b && c) ≡ true
-both_hold true c g h = h
-both_hold false c g h = absurd (cc)
-
-row_count : (dates : ℕ) (vectors : List (List ℕ)) (r : Row) (may : Bool) (head line : List ℕ) (spaces : ℕ) → IsLongLine head spaces line →
+pub row-count : (dates : ℕ) (vectors : List (List ℕ)) (r : Row) (may : Bool) (head line : List ℕ) (seen : Seen) → IsLongLine head seen line →
     begins_with (row_word r) head ≡ true → (may && row_fits dates r (length (others_of line))) ≡ false → row_line dates vectors r may line ≡ Err kind.Count
-row_count dates vectors r may head line spaces is begins h =
+row-count dates vectors r may head line seen is begins h =
     row_err dates vectors r may line kind.Count
-    (long_row dates (length vectors) r may head line spaces true is begins
+    (long_row dates (length vectors) r may head line seen true is begins
     ∙ ap (λ (b : Bool). if not b then Err kind.Count else numbers_or (numbers_by (row_range dates (length vectors) r) 1 (others_of line))) h)
 
-pub long-row-closed : (dates : ℕ) (vectors : List (List ℕ)) (r : Row) (may : Bool) (head line : List ℕ) (spaces : ℕ) → IsLongLine head spaces line →
-    begins_with (row_word r) head ≡ true → may ≡ false → row_line dates vectors r may line ≡ Err kind.Count
-long-row-closed dates vectors r may head line spaces is begins closed = row_count dates vectors r may head line spaces is begins (no_may may _ closed)
-
-pub long-row-unfit : (dates : ℕ) (vectors : List (List ℕ)) (r : Row) (may : Bool) (head line : List ℕ) (spaces : ℕ) → IsLongLine head spaces line →
-    begins_with (row_word r) head ≡ true → dates ≤ MOST_DATES → row_fits dates r spaces ≡ false → row_line dates vectors r may line ≡ Err kind.Count
-long-row-unfit dates vectors r may head line spaces is begins few unfit =
-    row_count dates vectors r may head line spaces is begins (no_fit may _ (long_fits dates r head line spaces is few ∙ unfit))
-
-pub long-row-number : (dates : ℕ) (vectors : List (List ℕ)) (r : Row) (may : Bool) (head line : List ℕ) (spaces : ℕ) → IsLongLine head spaces line →
-    begins_with (row_word r) head ≡ true → dates ≤ MOST_DATES → may ≡ true → row_fits dates r spaces ≡ true → row_line dates vectors r may line ≡ Err kind.Number
-long-row-number dates vectors r may head line spaces is begins few allowed fit =
+pub row-number : (dates : ℕ) (vectors : List (List ℕ)) (r : Row) (may : Bool) (head line : List ℕ) (seen : Seen) → IsLongLine head seen line →
+    begins_with (row_word r) head ≡ true → dates ≤ MOST_DATES → may ≡ true → row_fits dates r (length (others_of line)) ≡ true → row_line dates vectors r may line ≡ Err kind.Number
+row-number dates vectors r may head line seen is begins few allowed fits =
     let others : List (List ℕ) = others_of line in
-    let fits : row_fits dates r (length others) ≡ true = long_fits dates r head line spaces is few ∙ fit in
     let count : length others ≤ MOST_NUMBERS = few-numbers dates (length others) r few fits in
-    let named : begins_with (row_word r) line ≡ true = long-begins (row_word r) head line spaces is (row_length r) ∙ begins in
-    let first : length (first_word line) ≤ 20 = omega (arith, ap length ((bytes_decides (row_word r) (first_word line)).0 named), row_length r) in
+    let named : begins_with (row_word r) line ≡ true = long-begins (row_word r) head line seen is (row-length r) ∙ begins in
+    let first : length (first_word line) ≤ 20 = omega (arith, ap length ((bytes_decides (row_word r) (first_word line)).0 named), row-length r) in
     let none : numbers_by (row_range dates (length vectors) r) 1 others ≡ None = none_by (numbers_by (row_range dates (length vectors) r) 1 others) (λ numbers e.
-    omega (arith, is.long, first, count, short_line line (first_word line) others (line_parted line) (short_by (row_range dates (length vectors) r) 1 others numbers e))) in
+    omega (arith, is.long, first, count, short-line line (first_word line) others (line-parted line) (short-by (row_range dates (length vectors) r) 1 others numbers e))) in
     row_err dates vectors r may line kind.Number
-    (long_row dates (length vectors) r may head line spaces true is begins
-    ∙ ap (λ (b : Bool). if not b then Err kind.Count else numbers_or (numbers_by (row_range dates (length vectors) r) 1 others)) (both_hold may _ allowed fits)
+    (long_row dates (length vectors) r may head line seen true is begins
+    ∙ ap (λ (b : Bool). if not b then Err kind.Count else numbers_or (numbers_by (row_range dates (length vectors) r) 1 others)) (both-hold may _ allowed fits)
     ∙ ap numbers_or none)
+
+pub other-count : (line : List ℕ) → length (words_of line) - 1 ≡ length (others_of line)
+other-count line = omega (arith, ap length (line-parted line))
 
 -- a line is longer than another
 other_by : (word line : List ℕ) (b : Bool) → pointwise nat_eq word line ≡ b → length word < length line → b ≡ false
 other_by word line false e less = refl
 other_by word line true e less = absurd (omega (arith, less, ap length ((bytes_decides word line).0 e)))
 
-pub long-other : (word head line : List ℕ) (spaces : ℕ) → IsLongLine head spaces line → length word ≤ 20 → pointwise nat_eq word line ≡ false
-long-other word head line spaces is few = other_by word line _ refl (omega (arith, is.long, few))
+pub long-other : (word head line : List ℕ) (seen : Seen) → IsLongLine head seen line → length word ≤ 20 → pointwise nat_eq word line ≡ false
+long-other word head line seen is few = other_by word line _ refl (omega (arith, is.long, few))
 
-pub long-node : (v : Version) (head line : List ℕ) (spaces : ℕ) → IsLongLine head spaces line → node_row v line ≡ node_row v head
-long-node v head line spaces is =
-    ap (λ (b : Bool). if b then row.Split else if begins_with (codes "p") line then row.Point else leaf_row v) (long-begins (codes "s") head line spaces is (omega arith))
-    ∙ ap (λ (b : Bool). if begins_with (codes "s") head then row.Split else if b then row.Point else leaf_row v) (long-begins (codes "p") head line spaces is (omega arith))
+pub long-node : (v : Version) (head line : List ℕ) (seen : Seen) → IsLongLine head seen line → node_row v line ≡ node_row v head
+long-node v head line seen is =
+    ap (λ (b : Bool). if b then row.Split else if begins_with (codes "p") line then row.Point else if has_sums v && begins_with (codes "t") line then row.SumSplit else leaf_row v)
+    (long-begins (codes "s") head line seen is (omega arith))
+    ∙ ap (λ (b : Bool). if begins_with (codes "s") head then row.Split else if b then row.Point else if has_sums v && begins_with (codes "t") line then row.SumSplit else leaf_row v)
+    (long-begins (codes "p") head line seen is (omega arith))
+    ∙ ap (λ (b : Bool). if begins_with (codes "s") head then row.Split else if begins_with (codes "p") head then row.Point else if has_sums v && b then row.SumSplit else leaf_row v)
+    (long-begins (codes "t") head line seen is (omega arith))
 
-title_by : (v : Version) (head line : List ℕ) (spaces : ℕ) → IsLongLine head spaces line → pointwise nat_eq (title_word v) line ≡ false
-title_by version.One head line spaces is = long-other (title_word version.One) head line spaces is (omega arith)
-title_by (version.Packed weighing.WholeOrNone) head line spaces is = long-other (title_word (version.Packed weighing.WholeOrNone)) head line spaces is (omega arith)
-title_by (version.Packed weighing.Number) head line spaces is = long-other (title_word (version.Packed weighing.Number)) head line spaces is (omega arith)
+title_by : (v : Version) (head line : List ℕ) (seen : Seen) → IsLongLine head seen line → pointwise nat_eq (title_word v) line ≡ false
+title_by version.One head line seen is = long-other (title_word version.One) head line seen is (omega arith)
+title_by (version.Packed weighing.WholeOrNone) head line seen is = long-other (title_word (version.Packed weighing.WholeOrNone)) head line seen is (omega arith)
+title_by (version.Packed weighing.Number) head line seen is = long-other (title_word (version.Packed weighing.Number)) head line seen is (omega arith)
 
 -- a long line is no first line, and says no version but 1
-pub long-title : (v : Version) (dates : ℕ) (vectors : List (List ℕ)) (head line : List ℕ) (spaces : ℕ) → IsLongLine head spaces line → line_said v dates vectors due.Title line ≡ Err kind.Header
-long-title v dates vectors head line spaces is = ap (λ (b : Bool). if b then Ok (line_of.Title v) else Err kind.Header) (title_by v head line spaces is)
+pub long-title : (v : Version) (dates : ℕ) (vectors : List (List ℕ)) (head line : List ℕ) (seen : Seen) → IsLongLine head seen line → line_said v dates vectors due.Title line ≡ Err kind.Header
+long-title v dates vectors head line seen is = ap (λ (b : Bool). if b then Ok (line_of.Title v) else Err kind.Header) (title_by v head line seen is)
 
-pub long-version : (head line : List ℕ) (spaces : ℕ) → IsLongLine head spaces line → title_version line ≡ version.One
-long-version head line spaces is = ap (λ (b : Bool). if b then version.Packed (title_weighing line) else version.One) (title_by (version.Packed (title_weighing line)) head line spaces is)
+pub long-version : (head line : List ℕ) (seen : Seen) → IsLongLine head seen line → title_version line ≡ version.One
+long-version head line seen is = ap (λ (b : Bool). if b then version.Packed (title_weighing line) else version.One) (title_by (version.Packed (title_weighing line)) head line seen is)

@@ -42,23 +42,23 @@ line_ended (line.Gap cents) h = absurd (cc)
 line_ended (line.Vectors count) h = absurd (cc)
 line_ended (line.Vector prices) h = absurd (cc)
 line_ended (line.Nodes count) h = absurd (cc)
-line_ended (line.Split number at) h = absurd (cc)
+line_ended (line.Split part at) h = absurd (cc)
 line_ended line.Point h = absurd (cc)
-line_ended (line.Closed how rho mu vector changes) h = absurd (cc)
+line_ended (line.Closed how rho mu vector changes weights) h = absurd (cc)
 line_ended (line.Leaf leaf) h = absurd (cc)
 line_ended line.End h = absurd (cc)
 
 node_suits : (v : Version) (dates left trees : ℕ) (vectors : List (List ℕ)) (said : Line) (leaf : Leaf) → IsNodeLine v dates vectors said →
-    (line_item said ≡ item.Leaf → leaf ≡ line_leaf vectors said) → IsSuited dates (due.Node left trees) (line_item said) leaf
-node_suits v dates left trees vectors (line.Split number at) leaf is given = tt
+    (line_item said ≡ item.Leaf → leaf ≡ line_leaf dates vectors said) → IsSuited dates (due.Node left trees) (line_item said) leaf
+node_suits v dates left trees vectors (line.Split part at) leaf is given = tt
 node_suits v dates left trees vectors line.Point leaf is given = tt
-node_suits (version.Packed w) dates left trees vectors (line.Closed how rho mu vector changes) leaf is given = subst (IsLeaf dates) (sym (given refl)) is.leaf.leaf
+node_suits (version.Packed w) dates left trees vectors (line.Closed how rho mu vector changes weights) leaf is given = subst (IsLeaf dates) (sym (given refl)) is.leaf.leaf
 node_suits version.One dates left trees vectors (line.Leaf mine) leaf is given = subst (IsLeaf dates) (sym (given refl)) is.0
 node_suits version.One dates left trees vectors said leaf is given = absurd is
 node_suits (version.Packed w) dates left trees vectors said leaf is given = absurd is
 
 line_suits : (v : Version) (dates : ℕ) (vectors : List (List ℕ)) (d : Due) (said : Line) (leaf : Leaf) → Fits v dates vectors d said →
-    (line_item said ≡ item.Leaf → leaf ≡ line_leaf vectors said) → IsSuited dates (seen_due d) (line_item said) leaf
+    (line_item said ≡ item.Leaf → leaf ≡ line_leaf dates vectors said) → IsSuited dates (seen_due d) (line_item said) leaf
 line_suits v dates vectors due.Title (line.Title w) leaf fits given = tt
 line_suits v dates vectors due.Portfolio (line.Portfolio None) leaf fits given = tt
 line_suits v dates vectors due.Portfolio (line.Portfolio (Some count)) leaf fits given = tt
@@ -106,7 +106,7 @@ few-step dates due.Count (item.Vectors count) leaf mine cert suited said few = f
 few-step dates due.Count item.Vector leaf mine cert suited said few = few
 few-step dates due.Count (item.Nodes count) leaf mine cert suited said few =
     few_by count 1 cert (count == 0) refl (omega (arith, said.1, ap length few))
-few-step dates (due.Node left trees) (item.Split at units) leaf mine cert suited said few = few_node left trees cert (tree.Split at units) few (trees + 1)
+few-step dates (due.Node left trees) (item.Split part at) leaf mine cert suited said few = few_node left trees cert (tree.Split part at) few (trees + 1)
 few-step dates (due.Node left trees) item.Point leaf mine cert suited said few = few_node left trees cert tree.Point few (trees - 1)
 few-step dates (due.Node left trees) item.Leaf leaf mine cert suited said few = few_node left trees cert (tree.Closed mine) few (trees - 1)
 few-step dates (due.End trees) item.End leaf mine cert suited said few = tt
@@ -115,9 +115,9 @@ few-step dates d told leaf mine cert suited said few = absurd suited
 
 -- ---- version 1
 node_few : (v : Version) (dates : ℕ) (vectors : List (List ℕ)) (said : Line) → IsNodeLine v dates vectors said → IsFewSaid (line_item said)
-node_few v dates vectors (line.Split number at) is = tt
+node_few v dates vectors (line.Split part at) is = tt
 node_few v dates vectors line.Point is = tt
-node_few v dates vectors (line.Closed how rho mu vector changes) is = tt
+node_few v dates vectors (line.Closed how rho mu vector changes weights) is = tt
 node_few v dates vectors (line.Leaf leaf) is = tt
 node_few v dates vectors said is = absurd is
 
@@ -153,9 +153,9 @@ seen_tree (version.Packed w) = refl
 
 node_after : (v : Version) (dates left trees : ℕ) (vectors : List (List ℕ)) (said : Line) → IsNodeLine v dates vectors said →
     seen_due (next_due v (due.Node left trees) (line_item said)) ≡ due_after (due.Node left trees) (line_item said)
-node_after v dates left trees vectors (line.Split number at) is = seen_nodes (left - 1) (trees + 1) (left - 1 == 0)
+node_after v dates left trees vectors (line.Split part at) is = seen_nodes (left - 1) (trees + 1) (left - 1 == 0)
 node_after v dates left trees vectors line.Point is = seen_nodes (left - 1) (trees - 1) (left - 1 == 0)
-node_after v dates left trees vectors (line.Closed how rho mu vector changes) is = seen_nodes (left - 1) (trees - 1) (left - 1 == 0)
+node_after v dates left trees vectors (line.Closed how rho mu vector changes weights) is = seen_nodes (left - 1) (trees - 1) (left - 1 == 0)
 node_after v dates left trees vectors (line.Leaf leaf) is = seen_nodes (left - 1) (trees - 1) (left - 1 == 0)
 node_after v dates left trees vectors said is = absurd is
 
@@ -205,7 +205,7 @@ found_line : (v : Version) (dates : ℕ) (d : Due) (vectors : List (List ℕ)) (
 found_line v dates d vectors bytes said are h = line-found v dates vectors d bytes said are.all (vectors-few dates d vectors are) h
 
 pub line-moves : (v : Version) (dates : ℕ) (d next : Due) (vectors after : List (List ℕ)) (bytes : List ℕ) (said : Line) (told : Item) (leaf : Leaf) → AreVectors dates d vectors →
-    line_said v dates vectors d bytes ≡ Ok said → told ≡ line_item said → (told ≡ item.Leaf → leaf ≡ line_leaf vectors said) → next ≡ next_due v d told → after ≡ vectors_with vectors said →
+    line_said v dates vectors d bytes ≡ Ok said → told ≡ line_item said → (told ≡ item.Leaf → leaf ≡ line_leaf dates vectors said) → next ≡ next_due v d told → after ≡ vectors_with vectors said →
     Moves dates (stage.Later v d) (stage.Later v next) vectors after bytes told leaf
 line-moves v dates d next vectors after bytes said told leaf are h told_is leaf_is next_is after_is =
     let found : IsFound v dates vectors d bytes said = found_line v dates d vectors bytes said are h in
@@ -215,9 +215,9 @@ line-moves v dates d next vectors after bytes said told leaf are h told_is leaf_
     let due_is : seen_due next ≡ due_after (seen_due d) told =
     ap (λ (e : Due). seen_due e) next_said ∙ line_after v dates vectors d said found.fits ∙ ap (λ (i : Item). due_after (seen_due d) i) (sym told_is) in
     let few_said : IsFewSaid told = subst IsFewSaid (sym told_is) (line_few v dates vectors d said found.fits) in
-    let mine : Leaf = line_leaf vectors said in
+    let mine : Leaf = line_leaf dates vectors said in
     record {
-      said = line_told vectors said;
+      said = line_told dates vectors said;
       item_is = told_is;
       ended = λ nothing. line_ended said (sym told_is ∙ nothing);
       leaf_is = leaf_is;
@@ -235,9 +235,9 @@ line-moves v dates d next vectors after bytes said told leaf are h told_is leaf_
           ∙ ap (λ (vs : List (List ℕ)). first_fault v dates (number + 1) next vs lines) (sym after_is);
       tells = λ lines some.
           told-cons v dates d vectors bytes lines some
-          ∙ ap (λ (r : Result Line FaultKind). told_or r (λ l. line_told vectors l ∷ told_lines v dates (next_due v d (line_item l)) (vectors_with vectors l) lines)) h
-          ∙ ap (λ (e : Due). line_told vectors said ∷ told_lines v dates e (vectors_with vectors said) lines) (sym next_said)
-          ∙ ap (λ (vs : List (List ℕ)). line_told vectors said ∷ told_lines v dates next vs lines) (sym after_is);
+          ∙ ap (λ (r : Result Line FaultKind). told_or r (λ l. line_told dates vectors l ∷ told_lines v dates (next_due v d (line_item l)) (vectors_with vectors l) lines)) h
+          ∙ ap (λ (e : Due). line_told dates vectors said ∷ told_lines v dates e (vectors_with vectors said) lines) (sym next_said)
+          ∙ ap (λ (vs : List (List ℕ)). line_told dates vectors said ∷ told_lines v dates next vs lines) (sym after_is);
     }
 
 pub line-stops : (v : Version) (dates : ℕ) (d : Due) (vectors : List (List ℕ)) (bytes : List ℕ) (cause : FaultKind) → line_said v dates vectors d bytes ≡ Err cause →

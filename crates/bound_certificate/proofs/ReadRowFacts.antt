@@ -72,9 +72,11 @@ few-numbers dates count row.Vectors few fits = let same : count ≡ 1 = grind (a
 few-numbers dates count row.Vector few fits = let same : count ≡ dates = grind (arith, fits) in omega (arith, same, few)
 few-numbers dates count row.Nodes few fits = let same : count ≡ 1 = grind (arith, fits) in omega (arith, same)
 few-numbers dates count row.Split few fits = let same : count ≡ 2 = grind (arith, fits) in omega (arith, same)
+few-numbers dates count row.SumSplit few fits = let same : count ≡ 2 = grind (arith, fits) in omega (arith, same)
 few-numbers dates count row.Point few fits = let same : count ≡ 0 = grind (arith, fits) in omega (arith, same)
 few-numbers dates count (row.Leaf how) few fits = let same : count ≤ 3 + 2 * dates = grind (arith, fits) in omega (arith, same, few)
 few-numbers dates count row.Priced few fits = let same : count ≡ 2 + dates = grind (arith, fits) in omega (arith, same, few)
+few-numbers dates count row.Tail few fits = let same : count ≤ 192 = grind (arith, fits) in omega (arith, same)
 few-numbers dates count row.End few fits = let same : count ≡ 0 = grind (arith, fits) in omega (arith, same)
 
 -- as many words as numbers

@@ -1,5 +1,5 @@
 -- How long the text of a certificate can be: it is within the limit of its file.
-use Rattle.std.proofs.Common.{◌≡◌, ℕ, zero, suc, ◌+◌, ◌*◌, ◌^◌, ◌<◌, ◌≤◌, if◌then◌else◌, true, false, Bool, List, [], ◌∷◌, ◌++◌, length, map, Option, Some, None, ap, ◌∙◌, inl, inr, arith, decimal}
+use Rattle.std.proofs.Common.{◌≡◌, ℕ, zero, suc, ◌+◌, ◌*◌, ◌^◌, ◌<◌, ◌≤◌, List, [], ◌∷◌, ◌++◌, length, map, Option, Some, None, ap, ◌∙◌, inl, inr, arith, decimal}
 use Rattle.std.specs.List.{All, flat_map}
 use Rattle.std.specs.Prelude.{codes}
 use Rattle.std.proofs.lemmas.Fmt.{length-decimal-le}
@@ -8,8 +8,12 @@ use Rattle.std.proofs.lemmas.List.Concat.{flat_map-append}
 use Rattle.std.proofs.lemmas.List.Elements.{All-cons, All-head, All-tail, All-weaker}
 use Rattle.escrow_desk.specs.declared.limits.TheConstants.{CERTIFICATE_LIMIT}
 use Rattle.proof_tree.specs.declared.prices.TheConstants.{PRICE_SCALE}
-use Rattle.proof_tree.specs.Tree.{AreTrees, IsLeaf}
+use Rattle.proof_tree.specs.Tree.{AreSumWeights, AreTrees, IsLeaf, IsPart, IsSumWeight}
+use Rattle.proof_tree.specs.declared.weights.SumWeight.{SumWeight}
 use Rattle.proof_tree.specs.declared.tree.Leaf.{Leaf}
+use Rattle.proof_tree.specs.declared.tree.Part.{Part}
+use Rattle.proof_tree.specs.declared.tree.Part.TheVariants as part
+use Rattle.proof_tree.specs.declared.tree.TheConstants.{GREATEST_UNITS}
 use Rattle.bound_certificate.specs.declared.certificate.Buy.{Buy}
 use Rattle.bound_certificate.specs.declared.certificate.Certificate.{Certificate}
 use Rattle.bound_certificate.specs.declared.limits.TheConstants.{MOST_VECTORS}
@@ -20,16 +24,17 @@ use Rattle.bound_certificate.specs.declared.version.Version.{Version}
 use Rattle.bound_certificate.specs.declared.version.Version.TheVariants as version
 use Rattle.bound_certificate.specs.declared.weighing.Weighing.{Weighing}
 use Rattle.bound_certificate.specs.declared.weighing.Weighing.TheVariants as weighing
-use Rattle.bound_certificate.specs.Weights.{rho_number}
+use Rattle.bound_certificate.specs.Weights.{rho_number, side_number}
 use Rattle.bound_certificate.specs.Certificate.{IsBuy}
 use Rattle.bound_certificate.specs.Grammar.{most_buys}
-use Rattle.bound_certificate.specs.Packed.{AreChanges, IsChange, IsPackedLeaf, IsVector, vector_of}
+use Rattle.bound_certificate.specs.Packed.{IsChange, IsPackedLeaf, IsVector}
 use Rattle.bound_certificate.proofs.PriceFacts.{weight-small}
-use Rattle.bound_certificate.specs.Text.{change_numbers, line_text, numbered, portfolio_lines, spaced_numbers, vector_lines}
+use Rattle.bound_certificate.specs.Text.{change_numbers, line_text, numbered, portfolio_lines, spaced_numbers, tail_text, vector_lines, weight_numbers}
 use Rattle.bound_certificate.specs.Versions.{IsCertificateText}
-use Rattle.bound_certificate.proofs.ChangeFacts.{InChange, few-changes}
+use Rattle.bound_certificate.proofs.ChangeFacts.{few-changes}
 use Rattle.bound_certificate.proofs.DueFacts.{IsNodeLine}
 use Rattle.bound_certificate.proofs.FollowFacts.{ArePortfolio, AreVectorsOf, IsPortfolioOf, IsWritten, Written, are-portfolio, no-portfolio, tree_lines, tree_of, written_lines}
+use Rattle.bound_certificate.proofs.WeightFacts.{side-ends}
 use Rattle.bound_certificate.proofs.WrittenFacts.{is-packed, is-written, packed_written, whole_written}
 
 -- numbers of at most 13 digits, with a space before each
@@ -86,27 +91,21 @@ priced_size dates leaf few is_leaf =
     )
 
 -- the numbers of changes: a place of at most 3 digits, and a price of at most 13
-changes_size : (dates : ℕ) (vector : List ℕ) (changes : List Change) → dates ≤ 480 → All (IsChange dates vector) changes
+changes_size : (dates : ℕ) (changes : List Change) → dates ≤ 480 → All (IsChange dates) changes
     → length (spaced_numbers (change_numbers changes)) ≤ 18 * length changes
-changes_size dates vector [] few all = omega arith
-changes_size dates vector (change ∷ changes) few all =
-    let here : IsChange dates vector change = All-head (IsChange dates vector) change changes all in
+changes_size dates [] few all = omega arith
+changes_size dates (change ∷ changes) few all =
+    let here : IsChange dates change = All-head (IsChange dates) change changes all in
     let place : change.place < 10 ^ 3 = omega (arith, here.last, few) in
     let price : change.price < 10 ^ 13 = omega (arith, here.range) in
     omega (
       arith,
       length-decimal-le 3 change.place (omega arith) place (omega (arith, place)),
       length-decimal-le 13 change.price (omega arith) price (omega (arith, price)),
-      changes_size dates vector changes few (All-tail (IsChange dates vector) change changes all),
+      changes_size dates changes few (All-tail (IsChange dates) change changes all),
       length-append (decimal change.place) (spaced_numbers (change.price ∷ change_numbers changes)),
       length-append (decimal change.price) (spaced_numbers (change_numbers changes)),
     )
-
-in_change : (dates : ℕ) (vector : List ℕ) (change : Change) → IsChange dates vector change → InChange dates change
-in_change dates vector change is = record { first = is.first; last = is.last; range = is.range }
-
-few_of : (dates : ℕ) (vector : List ℕ) (changes : List Change) → AreChanges dates vector changes → length changes ≤ dates
-few_of dates vector changes are = few-changes dates changes (All-weaker (IsChange dates vector) (InChange dates) (in_change dates vector) changes are.all) are.rising
 
 -- the line of a leaf: three numbers, and at most 480 changes
 three_size : (first second third : ℕ) (numbers : List ℕ) → first < 10 ^ 13 → second < 10 ^ 13 → third < 10 ^ 13
@@ -122,32 +121,66 @@ three_size first second third numbers one two three =
       length-append (decimal third) (spaced_numbers numbers),
     )
 
-leaf_size : (how : Weighing) (dates : ℕ) (vectors : List (List ℕ)) (rho mu vector : ℕ) (changes : List Change) → dates ≤ 480 → length vectors ≤ MOST_VECTORS
-    → IsPackedLeaf dates vectors rho mu vector changes → length (line_text (line.Closed how rho mu vector changes)) ≤ 8_700
-leaf_size how dates vectors rho mu vector changes few count leaf =
+-- a tail: the word `t`, and at most 64 weights, each a need date of at most 3 digits, a side and a weight of at most 13
+weights_size : (dates : ℕ) (weights : List SumWeight) → dates ≤ 480 → All (IsSumWeight dates) weights → length (spaced_numbers (weight_numbers weights)) ≤ 20 * length weights
+weights_size dates [] few all = omega arith
+weights_size dates (own ∷ weights) few all =
+    let here : IsSumWeight dates own = All-head (IsSumWeight dates) own weights all in
+    let date : own.sum + 1 < 10 ^ 3 = omega (arith, here.sum, few) in
+    let side : side_number own.side < 10 ^ 1 = omega (arith, side-ends own.side) in
+    let weight : own.weight < 10 ^ 13 = omega (arith, here.most) in
+    omega (
+      arith,
+      length-decimal-le 3 (own.sum + 1) (omega arith) date (omega (arith, date)),
+      length-decimal-le 1 (side_number own.side) (omega arith) side (omega (arith, side)),
+      length-decimal-le 13 own.weight (omega arith) weight (omega (arith, weight)),
+      weights_size dates weights few (All-tail (IsSumWeight dates) own weights all),
+      length-append (decimal (own.sum + 1)) (spaced_numbers (side_number own.side ∷ own.weight ∷ weight_numbers weights)),
+      length-append (decimal (side_number own.side)) (spaced_numbers (own.weight ∷ weight_numbers weights)),
+      length-append (decimal own.weight) (spaced_numbers (weight_numbers weights)),
+    )
+
+tail_size : (dates : ℕ) (weights : List SumWeight) → dates ≤ 480 → AreSumWeights dates weights → length (tail_text weights) ≤ 1_282
+tail_size dates [] few are = omega arith
+tail_size dates (own ∷ weights) few are = omega (arith, weights_size dates (own ∷ weights) few are.each, are.few)
+
+tailed_size : (word numbers tail : List ℕ) → length (word ++ spaced_numbers numbers ++ tail ++ 10 ∷ []) ≡ length word + length (spaced_numbers numbers) + length tail + 1
+tailed_size word numbers tail =
+    length-append (word ++ spaced_numbers numbers ++ tail) (10 ∷ []) ∙ ap (λ n. n + 1) (length-append (word ++ spaced_numbers numbers) tail)
+    ∙ ap (λ n. n + length tail + 1) (length-append word (spaced_numbers numbers))
+
+leaf_size : (how : Weighing) (dates : ℕ) (vectors : List (List ℕ)) (rho mu vector : ℕ) (changes : List Change) (weights : List SumWeight) → dates ≤ 480 → length vectors ≤ MOST_VECTORS
+    → IsPackedLeaf dates vectors rho mu vector changes weights → length (line_text (line.Closed how rho mu vector changes weights)) ≤ 9_980
+leaf_size how dates vectors rho mu vector changes weights few count leaf =
     let weight : ℕ = rho_number how rho in
     omega (
       arith,
-      line_size (codes "l") (weight ∷ mu ∷ vector ∷ change_numbers changes),
+      tailed_size (codes "l") (weight ∷ mu ∷ vector ∷ change_numbers changes) (tail_text weights),
+      tail_size dates weights few leaf.leaf.weights,
       three_size weight mu vector (change_numbers changes) (rho_small how rho leaf.leaf.cost) (omega (arith, leaf.leaf.limit)) (omega (arith, leaf.last, count)),
-      changes_size dates (vector_of vectors vector) changes few leaf.changes_are.all,
-      few_of dates (vector_of vectors vector) changes leaf.changes_are,
+      changes_size dates changes few leaf.changes_are.all,
+      few-changes dates changes leaf.changes_are.all leaf.changes_are.rising,
       few,
     )
 
+-- the line of a split: two numbers
+split_size : (dates : ℕ) (part : Part) (at : ℕ) → dates ≤ 480 → IsPart dates part → at ≤ GREATEST_UNITS → length (line_text (line.Split part at)) ≤ 42
+split_size dates (part.Line number) at few is most = two_size (codes "s") number at (omega (arith, is)) (omega (arith, most))
+split_size dates (part.Sum sum) at few is most = two_size (codes "t") (sum + 1) at (omega (arith, is, few)) (omega (arith, most))
+
 -- the lines of the nodes of so many trees: each tree ends in one leaf or point more than it has splits
 nodes_size : (v : Version) (dates count : ℕ) (vectors : List (List ℕ)) (nodes : List Line) → dates ≤ 480 → length vectors ≤ MOST_VECTORS
-    → All (IsNodeLine v dates vectors) nodes → AreTrees count (map (tree_of vectors) nodes)
-    → length (flat_map line_text nodes) ≤ 44 * length nodes + 4_340 * (length nodes + count)
+    → All (IsNodeLine v dates vectors) nodes → AreTrees count (map (tree_of dates vectors) nodes)
+    → length (flat_map line_text nodes) ≤ 44 * length nodes + 4_970 * (length nodes + count)
 nodes_size v dates count vectors [] few many all trees = omega arith
 nodes_size v dates zero vectors (next ∷ nodes) few many all trees = absurd (cc)
-nodes_size v dates (suc count) vectors (line.Split number at ∷ nodes) few many all trees =
-    let own : Line = line.Split number at in
+nodes_size v dates (suc count) vectors (line.Split part at ∷ nodes) few many all trees =
+    let own : Line = line.Split part at in
     let here : IsNodeLine v dates vectors own = All-head (IsNodeLine v dates vectors) own nodes all in
     omega (
       arith,
       length-append (line_text own) (flat_map line_text nodes),
-      two_size (codes "s") number at (omega (arith, here.0)) (omega (arith, here.1)),
+      split_size dates part at few here.0 here.1,
       nodes_size v dates (suc (suc count)) vectors nodes few many (All-tail (IsNodeLine v dates vectors) own nodes all) trees,
     )
 nodes_size v dates (suc count) vectors (line.Point ∷ nodes) few many all trees =
@@ -157,12 +190,12 @@ nodes_size v dates (suc count) vectors (line.Point ∷ nodes) few many all trees
       length-append (line_text own) (flat_map line_text nodes),
       nodes_size v dates count vectors nodes few many (All-tail (IsNodeLine v dates vectors) own nodes all) trees,
     )
-nodes_size (version.Packed w) dates (suc count) vectors (line.Closed how rho mu vector changes ∷ nodes) few many all trees =
-    let own : Line = line.Closed how rho mu vector changes in
+nodes_size (version.Packed w) dates (suc count) vectors (line.Closed how rho mu vector changes weights ∷ nodes) few many all trees =
+    let own : Line = line.Closed how rho mu vector changes weights in
     omega (
       arith,
       length-append (line_text own) (flat_map line_text nodes),
-      leaf_size how dates vectors rho mu vector changes few many (All-head (IsNodeLine (version.Packed w) dates vectors) own nodes all).leaf,
+      leaf_size how dates vectors rho mu vector changes weights few many (All-head (IsNodeLine (version.Packed w) dates vectors) own nodes all).leaf,
       nodes_size (version.Packed w) dates count vectors nodes few many (All-tail (IsNodeLine (version.Packed w) dates vectors) own nodes all) trees,
     )
 nodes_size version.One dates (suc count) vectors (line.Leaf leaf ∷ nodes) few many all trees =
@@ -249,7 +282,7 @@ few_vectors version.One dates vectors none = omega (arith, ap length none)
 few_vectors (version.Packed w) dates vectors are = are.0
 
 -- the lines from the nodes on
-tree_size : (v : Version) (dates : ℕ) (w : Written) → dates ≤ 480 → IsWritten v dates w → length (flat_map line_text (tree_lines w.nodes)) ≤ 44_000_000
+tree_size : (v : Version) (dates : ℕ) (w : Written) → dates ≤ 480 → IsWritten v dates w → length (flat_map line_text (tree_lines w.nodes)) ≤ 51_000_000
 tree_size v dates w few well =
     omega (
       arith,

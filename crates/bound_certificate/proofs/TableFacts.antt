@@ -70,10 +70,18 @@ or_found : (o : Option (List ℕ)) (numbers : List ℕ) → numbers_or o ≡ Ok 
 or_found None numbers h = absurd (cc)
 or_found (Some found) numbers h = let same : found ≡ numbers = cc in ap (λ (ns : List ℕ). Some ns) same
 
-words_found : (dates vectors : ℕ) (r : Row) (may : Bool) (bytes numbers : List ℕ) (ws : List (List ℕ)) → words_of bytes ≡ ws →
-    row_words dates vectors r may ws ≡ Ok numbers → IsRowOf dates vectors r may bytes numbers
-words_found dates vectors r may bytes numbers [] e h = absurd (cc)
-words_found dates vectors r may bytes numbers (first ∷ others) e h =
+-- the same of its words
+pub record AreRowWords (dates vectors : ℕ) (r : Row) (may : Bool) (words : List (List ℕ)) (numbers : List ℕ) : Type 0 where
+  pub stands : may ≡ true
+  pub texts : words ≡ row_word r ∷ map decimal numbers
+  pub small : AreWritten numbers
+  pub ranges : InRanges (row_range dates vectors r) 1 numbers
+  pub fits : row_fits dates r (length numbers) ≡ true
+
+pub words-found : (dates vectors : ℕ) (r : Row) (may : Bool) (numbers : List ℕ) (ws : List (List ℕ)) → row_words dates vectors r may ws ≡ Ok numbers →
+    AreRowWords dates vectors r may ws numbers
+words-found dates vectors r may numbers [] h = absurd (cc)
+words-found dates vectors r may numbers (first ∷ others) h =
     let named : (pointwise nat_eq (row_word r) first ≡ true) × ((if not (may && row_fits dates r (length others)) then Err kind.Count
     else numbers_or (numbers_by (row_range dates vectors r) 1 others)) ≡ Ok numbers) = err_if _ kind.Header _ numbers h in
     let counted : ((may && row_fits dates r (length others)) ≡ true) × (numbers_or (numbers_by (row_range dates vectors r) 1 others) ≡ Ok numbers) =
@@ -85,14 +93,16 @@ words_found dates vectors r may bytes numbers (first ∷ others) e h =
     let count : length others ≡ length numbers = ap length found.texts ∙ length-map numbers decimal in
     record {
       stands = both.0;
-      text = words-row bytes (row_word r) numbers (e ∙ ap (λ (w : List ℕ). w ∷ others) (sym same) ∙ ap (λ (ws : List (List ℕ)). row_word r ∷ ws) found.texts);
+      texts = ap (λ (w : List ℕ). w ∷ others) (sym same) ∙ ap (λ (ws : List (List ℕ)). row_word r ∷ ws) found.texts;
       small = found.small;
       ranges = found.ranges;
       fits = ap (λ (k : ℕ). row_fits dates r k) (sym count) ∙ both.1;
     }
 
 pub row-found : (dates vectors : ℕ) (r : Row) (may : Bool) (bytes numbers : List ℕ) → row_said dates vectors r may bytes ≡ Ok numbers → IsRowOf dates vectors r may bytes numbers
-row-found dates vectors r may bytes numbers h = words_found dates vectors r may bytes numbers (words_of bytes) refl h
+row-found dates vectors r may bytes numbers h =
+    let are : AreRowWords dates vectors r may (words_of bytes) numbers = words-found dates vectors r may numbers (words_of bytes) h in
+    record { stands = are.stands; text = words-row bytes (row_word r) numbers are.texts; small = are.small; ranges = are.ranges; fits = are.fits }
 
 -- the words of rows have no space and no line feed
 pub row-word : (r : Row) → IsWord (row_word r)
@@ -103,9 +113,11 @@ row-word row.Vectors = word_by (row_word row.Vectors) refl
 row-word row.Vector = word_by (row_word row.Vector) refl
 row-word row.Nodes = word_by (row_word row.Nodes) refl
 row-word row.Split = word_by (row_word row.Split) refl
+row-word row.SumSplit = word_by (row_word row.SumSplit) refl
 row-word row.Point = word_by (row_word row.Point) refl
 row-word row.Priced = word_by (row_word row.Priced) refl
 row-word (row.Leaf how) = word_by (row_word (row.Leaf how)) refl
+row-word row.Tail = word_by (row_word row.Tail) refl
 row-word row.End = word_by (row_word row.End) refl
 
 row_one : (r : Row) → IsOneLine (row_word r)
@@ -116,9 +128,11 @@ row_one row.Vectors = line_by (row_word row.Vectors) refl
 row_one row.Vector = line_by (row_word row.Vector) refl
 row_one row.Nodes = line_by (row_word row.Nodes) refl
 row_one row.Split = line_by (row_word row.Split) refl
+row_one row.SumSplit = line_by (row_word row.SumSplit) refl
 row_one row.Point = line_by (row_word row.Point) refl
 row_one row.Priced = line_by (row_word row.Priced) refl
 row_one (row.Leaf how) = line_by (row_word (row.Leaf how)) refl
+row_one row.Tail = line_by (row_word row.Tail) refl
 row_one row.End = line_by (row_word row.End) refl
 
 pub row-one : (r : Row) (numbers : List ℕ) → AreWritten numbers → IsOneLine (row_word r ++ spaced_numbers numbers)

@@ -1,5 +1,5 @@
 -- What the numbers of a leaf say.
-use Rattle.std.proofs.Common.{◌≡◌, ◌∙◌, ℕ, ◌-◌, ◌≤◌, List, [], ◌∷◌, drop, get_or, length, take, sym, ap, arith, Ok, Err}
+use Rattle.std.proofs.Common.{◌≡◌, ◌∙◌, ℕ, ◌-◌, ◌≤◌, List, [], ◌∷◌, drop, get_or, length, take, sym, ap, arith, Option, Ok, Err}
 use Rattle.std.proofs.lemmas.List.{take_all}
 use Rattle.bound_certificate.specs.declared.fault.FaultKind.{FaultKind}
 use Rattle.bound_certificate.specs.declared.item.Item.TheVariants as item
@@ -32,28 +32,28 @@ three (rho ∷ []) some = absurd (omega (arith, some))
 three (rho ∷ mu ∷ []) some = absurd (omega (arith, some))
 three (rho ∷ mu ∷ vector ∷ numbers) some = ap (λ (ns : List ℕ). rho ∷ mu ∷ vector ∷ ns) (sym (take_all (length (rho ∷ mu ∷ vector ∷ numbers) - 3) numbers (omega arith)))
 
-leaf_by : (how : Weighing) (vectors : List (List ℕ)) (numbers prices : List ℕ) → 3 ≤ length numbers → prices ≡ vector_of vectors (get_or numbers 2 0) →
-    said_by vectors (row.Leaf how) numbers ≡ leaf_said how prices (get_or numbers 0 0) (get_or numbers 1 0) (get_or numbers 2 0) (changes_of (take (length numbers - 3) (drop 3 numbers)))
-leaf_by how vectors numbers prices some same =
+leaf_by : (how : Weighing) (dates : ℕ) (vectors : List (List ℕ)) (numbers : List ℕ) (prices : Option (List ℕ)) → 3 ≤ length numbers → prices ≡ vector_of vectors (get_or numbers 2 0) →
+    said_by dates vectors (row.Leaf how) numbers ≡ leaf_said how dates prices (get_or numbers 0 0) (get_or numbers 1 0) (get_or numbers 2 0) (changes_of (take (length numbers - 3) (drop 3 numbers)))
+leaf_by how dates vectors numbers prices some same =
     let changes : List Change = changes_of (take (length numbers - 3) (drop 3 numbers)) in
-    ap (said_by vectors (row.Leaf how)) (three numbers some)
-    ∙ ap (λ (ps : List ℕ). leaf_said how ps (get_or numbers 0 0) (get_or numbers 1 0) (get_or numbers 2 0) changes) (sym same)
+    ap (said_by dates vectors (row.Leaf how)) (three numbers some)
+    ∙ ap (λ (ps : Option (List ℕ)). leaf_said how dates ps (get_or numbers 0 0) (get_or numbers 1 0) (get_or numbers 2 0) changes) (sym same)
 
-pub leaf-numbers : (how : Weighing) (dates : ℕ) (vectors : List (List ℕ)) (numbers prices after : List ℕ) → dates ≤ MOST_DATES → length vectors ≤ MOST_VECTORS →
+pub leaf-numbers : (how : Weighing) (dates : ℕ) (vectors : List (List ℕ)) (numbers : List ℕ) (prices : Option (List ℕ)) (after : List ℕ) → dates ≤ MOST_DATES → length vectors ≤ MOST_VECTORS →
     AreRowNumbers dates (length vectors) (row.Leaf how) numbers → prices ≡ vector_of vectors (get_or numbers 2 0) →
-    ArePricesAfter prices (changes_of (take (length numbers - 3) (drop 3 numbers))) after → IsOfNumbers how (said_by vectors (row.Leaf how) numbers) numbers item.Leaf
+    ArePricesAfter dates prices (changes_of (take (length numbers - 3) (drop 3 numbers))) after → IsOfNumbers how (said_by dates vectors (row.Leaf how) numbers) numbers [] item.Leaf
 leaf-numbers how dates vectors numbers prices after short few are same taken =
     let of_leaf : AreOfLeaf numbers = leaf_row how dates (length vectors) numbers short few are in
     record {
-      is = leaf_by how vectors numbers prices of_leaf.some same
+      is = leaf_by how dates vectors numbers prices of_leaf.some same
           ∙ taken.leaf how (get_or numbers 0 0) (get_or numbers 1 0) (get_or numbers 2 0)
-          ∙ ap (λ (ns : List ℕ). Ok (line_with how item.Leaf ns)) (sym (three numbers of_leaf.some));
+          ∙ ap (λ (ns : List ℕ). Ok (line_with how item.Leaf ns [])) (sym (three numbers of_leaf.some));
       leaf = λ _. of_leaf;
     }
 
 -- numbers that are no leaf
-pub leaf-fault : (how : Weighing) (dates : ℕ) (vectors : List (List ℕ)) (numbers prices : List ℕ) (found : FaultKind) → AreRowNumbers dates (length vectors) (row.Leaf how) numbers →
-    prices ≡ vector_of vectors (get_or numbers 2 0) → AreFaulty prices (changes_of (take (length numbers - 3) (drop 3 numbers))) found →
-    said_by vectors (row.Leaf how) numbers ≡ Err found
+pub leaf-fault : (how : Weighing) (dates : ℕ) (vectors : List (List ℕ)) (numbers : List ℕ) (prices : Option (List ℕ)) (found : FaultKind) → AreRowNumbers dates (length vectors) (row.Leaf how) numbers →
+    prices ≡ vector_of vectors (get_or numbers 2 0) → AreFaulty dates prices (changes_of (take (length numbers - 3) (drop 3 numbers))) found →
+    said_by dates vectors (row.Leaf how) numbers ≡ Err found
 leaf-fault how dates vectors numbers prices found are same fault =
-    leaf_by how vectors numbers prices (leaf_three how dates (length numbers) are.fits).0 same ∙ fault how (get_or numbers 0 0) (get_or numbers 1 0) (get_or numbers 2 0)
+    leaf_by how dates vectors numbers prices (leaf_three how dates (length numbers) are.fits).0 same ∙ fault how (get_or numbers 0 0) (get_or numbers 1 0) (get_or numbers 2 0)

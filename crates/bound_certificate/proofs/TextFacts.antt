@@ -108,7 +108,7 @@ nodes_left left trees true = refl
 nodes_left left trees false = refl
 
 node_left : (v : Version) (left trees : ℕ) (told : Item) → left_for (next_due v (due.Node left trees) told) ≡ 0
-node_left v left trees (item.Split line at) = nodes_left (left - 1) (trees + 1) (left - 1 == 0)
+node_left v left trees (item.Split part at) = nodes_left (left - 1) (trees + 1) (left - 1 == 0)
 node_left v left trees item.Nothing = nodes_left (left - 1) (trees - 1) (left - 1 == 0)
 node_left v left trees item.Header = nodes_left (left - 1) (trees - 1) (left - 1 == 0)
 node_left v left trees (item.Portfolio count) = nodes_left (left - 1) (trees - 1) (left - 1 == 0)
@@ -123,9 +123,9 @@ node_left v left trees item.End = nodes_left (left - 1) (trees - 1) (left - 1 ==
 
 -- no vector comes by a node's line
 node_kept : (v : Version) (dates : ℕ) (vectors : List (List ℕ)) (said : Line) → IsNodeLine v dates vectors said → vectors_with vectors said ≡ vectors
-node_kept v dates vectors (line.Split number at) is = refl
+node_kept v dates vectors (line.Split part at) is = refl
 node_kept v dates vectors line.Point is = refl
-node_kept v dates vectors (line.Closed how rho mu vector changes) is = refl
+node_kept v dates vectors (line.Closed how rho mu vector changes weights) is = refl
 node_kept v dates vectors (line.Leaf leaf) is = refl
 node_kept v dates vectors said is = absurd is
 

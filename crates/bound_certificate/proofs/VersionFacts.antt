@@ -2,7 +2,6 @@
 use Rattle.std.proofs.Common.{◌≡◌, ◌∙◌, ℕ, ◌<◌, ◌≤◌, List, [], ◌∷◌, ◌++◌, length, refl, sym, subst, ap, arith, None, inl, inr}
 use Rattle.std.specs.List.{flat_map}
 use Rattle.bound_certificate.specs.declared.certificate.Certificate.{Certificate}
-use Rattle.bound_certificate.specs.declared.line.Line.{Line}
 use Rattle.bound_certificate.specs.declared.line.Line.TheVariants as line
 use Rattle.bound_certificate.specs.declared.packed.Packed.{Packed}
 use Rattle.bound_certificate.specs.declared.version.Version.{Version}
@@ -95,7 +94,7 @@ found_by : (v : Version) (dates : ℕ) (bytes : List ℕ) → version_of (lines_
 found_by version.One dates bytes e h = let found = text-found dates bytes (sym (version-fault version.One dates bytes e) ∙ h) in (found.0, inl found.1)
 found_by (version.Packed how) dates bytes e h =
     let found : (packed : Packed) × IsPackedTextOf dates packed bytes = packed_found how dates bytes (sym (version-fault (version.Packed how) dates bytes e) ∙ h) in
-    (unpacked found.0, inr (record { packed = found.0; text = found.1; same = refl }))
+    (unpacked dates found.0, inr (record { packed = found.0; text = found.1; same = refl }))
 
 pub plain-version : (dates : ℕ) (cert : Certificate) (bytes : List ℕ) → IsTextOf dates cert bytes → version_of (lines_in bytes) ≡ version.One
 plain-version dates cert bytes is = text-version version.One dates (whole_written cert) bytes (text-written dates cert bytes is)
@@ -120,4 +119,4 @@ texts-are-of-one dates bytes one other short (inl is) (inl also) = text-one date
 texts-are-of-one dates bytes one other short (inl is) (inr also) = absurd (two_versions dates bytes one other is also)
 texts-are-of-one dates bytes one other short (inr is) (inl also) = absurd (two_versions dates bytes other one also is)
 texts-are-of-one dates bytes one other short (inr is) (inr also) =
-    sym is.same ∙ ap (λ (p : Packed). unpacked p) (packed-text-one dates bytes is.packed also.packed short is.text also.text) ∙ also.same
+    sym is.same ∙ ap (λ (p : Packed). unpacked dates p) (packed-text-one dates bytes is.packed also.packed short is.text also.text) ∙ also.same

@@ -157,15 +157,15 @@ leaf_taken cert (item.Gap cents) leaf mine same = refl
 leaf_taken cert (item.Vectors count) leaf mine same = refl
 leaf_taken cert item.Vector leaf mine same = refl
 leaf_taken cert (item.Nodes count) leaf mine same = refl
-leaf_taken cert (item.Split line at) leaf mine same = refl
+leaf_taken cert (item.Split part at) leaf mine same = refl
 leaf_taken cert item.Point leaf mine same = refl
 leaf_taken cert item.End leaf mine same = refl
 
 pub cert-more : (v : Version) (dates : ℕ) (d : Due) (w : Written) (said : Line) (cert : Certificate) (told : Item) (leaf : Leaf) → Fits v dates w.vectors d said → NoNodes d w →
-    cert ≡ cert_of w → told ≡ line_item said → (told ≡ item.Leaf → leaf ≡ line_leaf w.vectors said) → with_item cert told leaf ≡ cert_of (and_line w said)
+    cert ≡ cert_of dates w → told ≡ line_item said → (told ≡ item.Leaf → leaf ≡ line_leaf dates w.vectors said) → with_item cert told leaf ≡ cert_of dates (and_line w said)
 cert-more v dates d w said cert told leaf fits none came told_is leaf_is =
-    leaf_taken cert told leaf (line_leaf w.vectors said) leaf_is ∙ ap (λ (i : Item). with_item cert i (line_leaf w.vectors said)) told_is
-    ∙ ap (λ (c : Certificate). with_item c (line_item said) (line_leaf w.vectors said)) came ∙ line-tells v dates d w said fits none
+    leaf_taken cert told leaf (line_leaf dates w.vectors said) leaf_is ∙ ap (λ (i : Item). with_item cert i (line_leaf dates w.vectors said)) told_is
+    ∙ ap (λ (c : Certificate). with_item c (line_item said) (line_leaf dates w.vectors said)) came ∙ line-tells v dates d w said fits none
 
 -- versions 2 and 3 have no leaf with all its prices
 no_leaf_line : (how : Weighing) (dates : ℕ) (vectors : List (List ℕ)) (d : Due) (leaf : Leaf) → Fits (version.Packed how) dates vectors d (line.Leaf leaf) → ⊥
@@ -194,9 +194,9 @@ line_adds how dates d w (line.Gap cents) fits = refl
 line_adds how dates d w (line.Vectors count) fits = refl
 line_adds how dates d w (line.Vector prices) fits = refl
 line_adds how dates d w (line.Nodes count) fits = refl
-line_adds how dates d w (line.Split number at) fits = node_adds w (line.Split number at)
+line_adds how dates d w (line.Split part at) fits = node_adds w (line.Split part at)
 line_adds how dates d w line.Point fits = node_adds w line.Point
-line_adds how dates d w (line.Closed own rho mu vector changes) fits = node_adds w (line.Closed own rho mu vector changes)
+line_adds how dates d w (line.Closed own rho mu vector changes weights) fits = node_adds w (line.Closed own rho mu vector changes weights)
 line_adds how dates d w (line.Leaf leaf) fits = absurd (no_leaf_line how dates w.vectors d leaf fits)
 line_adds how dates d w line.End fits = refl
 

@@ -1,5 +1,5 @@
 -- Well-formed certificates. The limits are this project's own.
-use Rattle.std.specs.Prelude.{◌≡◌, ℕ, ◌≤◌, ◌<◌, List, length, All, AllPairs, Option, Some, None}
+use Rattle.std.specs.Prelude.{◌≡◌, ℕ, ◌≤◌, ◌<◌, List, [], length, All, AllPairs, Option, Some, None}
 use Rattle.proof_tree.specs.Tree.{AreTrees, IsNode}
 use Rattle.proof_tree.specs.declared.tree.TreeNode.{TreeNode}
 use Rattle.proof_tree.specs.declared.tree.TreeNode.TheVariants as tree
@@ -7,7 +7,8 @@ use Rattle.bound_certificate.specs.declared.certificate.Buy.{Buy}
 use Rattle.bound_certificate.specs.declared.certificate.Certificate.{Certificate}
 use Rattle.bound_certificate.specs.declared.limits.TheConstants.{GREATEST_GAP, MOST_BUYS, MOST_DATES, MOST_NODES}
 use Rattle.proof_tree.specs.declared.tree.TheConstants.{GREATEST_UNITS}
-use Rattle.bound_certificate.specs.Weights.{IsWholeOrNone}
+use Rattle.bound_certificate.specs.declared.weighing.Weighing.TheVariants as weighing
+use Rattle.bound_certificate.specs.Weights.{IsSayablePart, IsWholeOrNone}
 
 -- at least one unit of a line
 abbrev pub IsBuy : Buy → Type 0
@@ -24,13 +25,13 @@ abbrev pub IsPortfolio : ℕ → Option (List Buy) → ℕ → Type 0
 IsPortfolio most None gap = gap ≡ 0
 IsPortfolio most (Some buys) gap = AreBuys most buys × (gap ≤ GREATEST_GAP)
 
--- the cost counts wholly at a leaf, or not at all
+-- a node that versions 1 and 2 can say: a split of a line, a point, or a leaf without weights of sums at which the cost counts wholly or not at all
 abbrev pub IsPlainNode : TreeNode → Type 0
-IsPlainNode (tree.Closed leaf) = IsWholeOrNone leaf.rho
+IsPlainNode (tree.Split part at) = IsSayablePart weighing.WholeOrNone part
+IsPlainNode (tree.Closed leaf) = IsWholeOrNone leaf.rho × (leaf.weights ≡ [])
 IsPlainNode other = Unit {0}
 
--- a certificate for so many need dates, as version 1 says it: its portfolio, of at most 257 purchases, and the nodes of one tree, from 1 to 10,000,
--- at whose leaves the cost counts wholly or not at all
+-- a certificate for so many need dates that version 1 can say: its portfolio, of at most 257 purchases, and the nodes of one tree, from 1 to 10,000
 pub record IsWellFormed (dates : ℕ) (cert : Certificate) : Type 0 where
   pub portfolio : IsPortfolio MOST_BUYS cert.buys cert.gap
   pub few : length cert.nodes ≤ MOST_NODES

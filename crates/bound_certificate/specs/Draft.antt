@@ -20,7 +20,7 @@ with_item cert (item.Portfolio None) leaf = record cert { buys = None }
 with_item cert (item.Portfolio (Some count)) leaf = record cert { buys = Some [] }
 with_item cert (item.Buy buy) leaf = record cert { buys = option_map (λ buys. buys ++ buy ∷ []) cert.buys }
 with_item cert (item.Gap cents) leaf = record cert { gap = cents }
-with_item cert (item.Split line at) leaf = record cert { nodes = cert.nodes ++ node.Split line at ∷ [] }
+with_item cert (item.Split part at) leaf = record cert { nodes = cert.nodes ++ node.Split part at ∷ [] }
 with_item cert item.Point leaf = record cert { nodes = cert.nodes ++ node.Point ∷ [] }
 with_item cert item.Leaf leaf = record cert { nodes = cert.nodes ++ node.Closed leaf ∷ [] }
 with_item cert other leaf = cert
@@ -36,7 +36,7 @@ with_line packed (line.Portfolio (Some count)) = record packed { buys = Some [] 
 with_line packed (line.Purchase buy) = record packed { buys = option_map (λ buys. buys ++ buy ∷ []) packed.buys }
 with_line packed (line.Gap cents) = record packed { gap = cents }
 with_line packed (line.Vector prices) = record packed { vectors = packed.vectors ++ prices ∷ [] }
-with_line packed (line.Split line at) = record packed { nodes = packed.nodes ++ packed_node.Split line at ∷ [] }
+with_line packed (line.Split part at) = record packed { nodes = packed.nodes ++ packed_node.Split part at ∷ [] }
 with_line packed line.Point = record packed { nodes = packed.nodes ++ packed_node.Point ∷ [] }
-with_line packed (line.Closed w rho mu vector changes) = record packed { nodes = packed.nodes ++ packed_node.Closed rho mu vector changes ∷ [] }
+with_line packed (line.Closed w rho mu vector changes weights) = record packed { nodes = packed.nodes ++ packed_node.Closed rho mu vector changes weights ∷ [] }
 with_line packed other = packed

@@ -35,7 +35,7 @@ next_due v (due.Gap most) said = tree_due v
 next_due v due.VectorCount (item.Vectors count) = vectors_due count
 next_due v (due.Vector left) said = vectors_due (left - 1)
 next_due v due.Count (item.Nodes count) = nodes_due count 1
-next_due v (due.Node left trees) (item.Split line at) = nodes_due (left - 1) (trees + 1)
+next_due v (due.Node left trees) (item.Split part at) = nodes_due (left - 1) (trees + 1)
 next_due v (due.Node left trees) other = nodes_due (left - 1) (trees - 1)
 next_due v d said = due.Nothing
 

@@ -4,6 +4,7 @@ use Rattle.std.specs.Prelude.{◌≡◌, ℕ, ◌+◌, ◌*◌, ◌%◌, ◌<◌
 use lib.Pointwise.{pointwise}
 use Rattle.proof_tree.specs.declared.prices.TheConstants.{PRICE_SCALE}
 use Rattle.proof_tree.specs.declared.tree.TheConstants.{GREATEST_UNITS}
+use Rattle.proof_tree.specs.declared.weights.TheConstants.{MOST_WEIGHTS}
 use Rattle.line_words.specs.declared.front.Taken.{Taken}
 use Rattle.line_words.specs.declared.range.Range.{Range}
 use Rattle.bound_certificate.specs.declared.fault.FaultKind.{FaultKind}
@@ -12,7 +13,7 @@ use Rattle.bound_certificate.specs.declared.limits.TheConstants.{MOST_NODES, MOS
 use Rattle.bound_certificate.specs.declared.row.Row.{Row}
 use Rattle.bound_certificate.specs.declared.row.Row.TheVariants as row
 use Rattle.bound_certificate.specs.declared.weighing.Weighing.{Weighing}
-use Rattle.bound_certificate.specs.Weights.{most_weight}
+use Rattle.bound_certificate.specs.Weights.{least_vector, most_weight}
 use Rattle.line_words.specs.Words.{from_to, is_in, number_in, parts_behind, words_of}
 
 -- how the first word of a line is written
@@ -24,9 +25,11 @@ row_word row.Vectors = codes "vectors"
 row_word row.Vector = codes "v"
 row_word row.Nodes = codes "nodes"
 row_word row.Split = codes "s"
+row_word row.SumSplit = codes "t"
 row_word row.Point = codes "p"
 row_word row.Priced = codes "l"
 row_word (row.Leaf w) = codes "l"
+row_word row.Tail = codes "t"
 row_word row.End = codes "end"
 
 -- the range of a price
@@ -37,12 +40,16 @@ price_range = from_to 0 (2 * PRICE_SCALE)
 abbrev pub weight_range : ℕ → Range
 weight_range place = if place == 1 then from_to 0 1 else if place == 2 then from_to 0 PRICE_SCALE else price_range
 
--- the range of the number at a place of a leaf with changes, from 1: the weight of the cost, the multiplier of the limit, the vector, and
+-- the range of the number at a place of a leaf with changes, from 1: the weight of the cost, the multiplier of the limit, the vector, or 0 for stairs, and
 -- by turns the place of a change and its price
 abbrev pub leaf_range : Weighing → ℕ → ℕ → ℕ → Range
 leaf_range w dates vectors place =
-    if place == 1 then from_to 0 (most_weight w) else if place == 2 then from_to 0 PRICE_SCALE else if place == 3 then from_to 1 vectors
+    if place == 1 then from_to 0 (most_weight w) else if place == 2 then from_to 0 PRICE_SCALE else if place == 3 then from_to (least_vector w) vectors
     else if place % 2 == 0 then from_to 1 dates else price_range
+
+-- the range of the number at a place of a tail, from 1: by turns the need date of a sum, a side and a weight
+abbrev pub tail_range : ℕ → ℕ → Range
+tail_range dates place = if place % 3 == 1 then from_to 1 dates else if place % 3 == 2 then from_to 0 1 else from_to 1 PRICE_SCALE
 
 -- the range of the number at a place of a line, from 1 behind the line's first word
 abbrev pub row_range : ℕ → ℕ → Row → ℕ → Range
@@ -53,19 +60,23 @@ row_range dates vectors row.Vectors place = from_to 0 MOST_VECTORS
 row_range dates vectors row.Vector place = price_range
 row_range dates vectors row.Nodes place = from_to 1 MOST_NODES
 row_range dates vectors row.Split place = if place == 1 then from_to 0 65_535 else from_to 0 GREATEST_UNITS
+row_range dates vectors row.SumSplit place = if place == 1 then from_to 1 dates else from_to 0 GREATEST_UNITS
 row_range dates vectors row.Priced place = weight_range place
 row_range dates vectors (row.Leaf w) place = leaf_range w dates vectors place
+row_range dates vectors row.Tail place = tail_range dates place
 row_range dates vectors other place = from_to 0 0
 
--- whether so many numbers make a line: a vector has one for each need date, a leaf with all its prices two more, and one with changes
--- three and then two for each change
+-- whether so many numbers make a line: a vector has one for each need date, a leaf with all its prices two more, one with changes three and
+-- then two for each change, and a tail three for each weight
 abbrev pub row_fits : ℕ → Row → ℕ → Bool
 row_fits dates (row.Buy least) count = count == 2
 row_fits dates row.Vector count = count == dates
 row_fits dates row.Split count = count == 2
+row_fits dates row.SumSplit count = count == 2
 row_fits dates row.Point count = count == 0
 row_fits dates row.Priced count = count == 2 + dates
 row_fits dates (row.Leaf w) count = nat_le 3 count && nat_le count (3 + 2 * dates) && (count % 2 == 1)
+row_fits dates row.Tail count = nat_le 3 count && nat_le count (3 * MOST_WEIGHTS) && (count % 3 == 0)
 row_fits dates row.End count = count == 0
 row_fits dates other count = count == 1
 

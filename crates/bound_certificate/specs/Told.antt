@@ -1,5 +1,5 @@
 -- What the lines of a certificate's text say, of whichever version it is; the prices of a leaf are written out. It is this project's own.
-use Rattle.std.specs.Prelude.{◌≡◌, ℕ, ◌⊎◌, false, List, [], ◌∷◌, ◌++◌, Result, Ok, Err}
+use Rattle.std.specs.Prelude.{◌≡◌, ℕ, ◌⊎◌, List, [], ◌∷◌, ◌++◌, Result, Ok, Err}
 use Rattle.std.specs.List.{fold}
 use Rattle.proof_tree.specs.declared.tree.Leaf.{Leaf}
 use Rattle.bound_certificate.specs.declared.certificate.Certificate.{Certificate}
@@ -25,17 +25,17 @@ pub record Told : Type 0 where
 
 -- the leaf that stands for none
 abbrev pub no_leaf : Leaf
-no_leaf = record { rho = 0; mu = 0; prices = [] }
+no_leaf = record { rho = 0; mu = 0; prices = []; weights = [] }
 
 -- the leaf that a line says, with its prices written out; of other lines the leaf that stands for none
-abbrev pub line_leaf : List (List ℕ) → Line → Leaf
-line_leaf vectors (line.Closed w rho mu vector changes) = leaf_with vectors rho mu vector changes
-line_leaf vectors (line.Leaf leaf) = leaf
-line_leaf vectors said = no_leaf
+abbrev pub line_leaf : ℕ → List (List ℕ) → Line → Leaf
+line_leaf dates vectors (line.Closed w rho mu vector changes weights) = leaf_with dates vectors rho mu vector changes weights
+line_leaf dates vectors (line.Leaf leaf) = leaf
+line_leaf dates vectors said = no_leaf
 
 -- what a line says, with its leaf
-abbrev pub line_told : List (List ℕ) → Line → Told
-line_told vectors said = record { item = line_item said; leaf = line_leaf vectors said }
+abbrev pub line_told : ℕ → List (List ℕ) → Line → Told
+line_told dates vectors said = record { item = line_item said; leaf = line_leaf dates vectors said }
 
 -- nothing more is told from a line at fault on
 abbrev pub told_or : Result Line FaultKind → (Line → List Told) → List Told
@@ -46,7 +46,7 @@ told_or (Ok said) more = more said
 abbrev pub told_lines : Version → ℕ → Due → List (List ℕ) → List (List ℕ) → List Told
 told_lines v dates d vectors (bytes ∷ next ∷ lines) =
     told_or (line_said v dates vectors d bytes)
-    (λ said. line_told vectors said ∷ told_lines v dates (next_due v d (line_item said)) (vectors_with vectors said) (next ∷ lines))
+    (λ said. line_told dates vectors said ∷ told_lines v dates (next_due v d (line_item said)) (vectors_with vectors said) (next ∷ lines))
 told_lines v dates d vectors lines = []
 
 -- what the whole lines of bytes say, up to the first that is at fault

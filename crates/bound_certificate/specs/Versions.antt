@@ -23,7 +23,7 @@ certificate_fault dates bytes = text_fault (version_of (lines_in bytes)) dates b
 pub record IsPackedFormOf (dates : ℕ) (cert : Certificate) (bytes : List ℕ) : Type 0 where
   pub packed : Packed
   pub text : IsPackedTextOf dates packed bytes
-  pub same : unpacked packed ≡ cert
+  pub same : unpacked dates packed ≡ cert
 
 -- bytes are a text of a certificate, of whichever version
 abbrev pub IsCertificateText : ℕ → Certificate → List ℕ → Type 0

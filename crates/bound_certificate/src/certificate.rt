@@ -1,10 +1,10 @@
 //! What a certificate says.
-ghost use Rattle.std.specs.Prelude.{option_map, ◌≡◌, ◌++◌, ◌∷◌, [], IfOk, OnOk, length};
+ghost use Rattle.std.specs.Prelude.{option_map, ◌≡◌, ◌++◌, ◌∷◌, [], IfOk, OnOk};
 ghost use Rattle.bound_certificate.specs.Draft.{no_lines, with_item};
 
 use crate::item::Item;
 use escrow_desk::NoMemory;
-use proof_tree::{Leaf, Nodes, Prices, TreeNode};
+use proof_tree::{Leaf, Nodes, TreeNode};
 use std::alloc::Global;
 use std::marker::Model;
 
@@ -77,22 +77,6 @@ pub fn copied_buys(alloc: Global, buys: Option<&Buys>) -> Result<Option<Buys>, N
     }
 }
 
-/// A leaf with a price for each of so many need dates, all 0.
-///
-/// # Errors
-///
-/// [`NoMemory`] where memory ran out.
-pub(crate) fn empty_leaf(alloc: Global, dates: u16) -> Result<Leaf, NoMemory>
-    ensures { IfOk result (λ leaf. length leaf.prices ≡ dates) }
-{
-    let prices = vec![in alloc; 0; usize::from(dates)]?;
-    Ok(Leaf {
-        rho: 0,
-        mu: 0,
-        prices: Prices::new(prices),
-    })
-}
-
 /// What a certificate says: a portfolio, by how much it may cost more than the cheapest, and a tree that shows it.
 #[derive(Debug, Drop)]
 pub struct Certificate {
@@ -133,7 +117,7 @@ impl Certificate {
                 }
             }
             Item::Gap(cents) => self.gap = cents,
-            Item::Split { line, at } => self.nodes.push(TreeNode::Split { line, at })?,
+            Item::Split { part, at } => self.nodes.push(TreeNode::Split { part, at })?,
             Item::Point => self.nodes.push(TreeNode::Point)?,
             Item::Leaf => self.nodes.push_leaf(alloc, leaf)?,
             Item::Nothing

@@ -10,10 +10,11 @@ ghost use Rattle.bound_certificate.specs.declared.fault.CertError.TheVariants as
 ghost use Rattle.bound_certificate.specs.declared.item.Item.TheVariants as item_of;
 ghost use Rattle.bound_certificate.specs.declared.packed.Packed.{Packed as PackedOf};
 
-use crate::certificate::{Buys, Certificate, empty_leaf};
+use crate::certificate::{Buys, Certificate};
 use crate::due::Due;
 use crate::fault::{CertError, CertFault, rest_fault};
 use crate::item::Item;
+use crate::lent_leaf::LentLeaf;
 use crate::limits::MOST_DATES;
 use crate::line::Line;
 use crate::packed::{Changes, Packed, PackedNode, PackedNodes, Vectors};
@@ -24,7 +25,7 @@ use crate::weighing::Weighing;
 use arrayvec::ArrayVec;
 use escrow_desk::NoMemory;
 use line_words::cut_line;
-use proof_tree::Prices;
+use proof_tree::{Prices, Weights};
 use std::alloc::Global;
 
 /// Reads the text of a certificate for so many need dates, at most 480: a leaf has a price for each.
@@ -40,7 +41,7 @@ pub fn read_cert(alloc: Global, bytes: &[u8], dates: u16) -> Result<Certificate,
 {
     let mut numbers = ArrayVec::new();
     let mut vectors = VectorRoom::make(alloc)?;
-    let mut leaf = empty_leaf(alloc, dates)?;
+    let mut leaf = LentLeaf::make(alloc, dates)?;
     let mut cert = Certificate::empty(alloc);
     let mut due = Due::Title;
     let mut number = 1;
@@ -59,7 +60,7 @@ pub fn read_cert(alloc: Global, bytes: &[u8], dates: u16) -> Result<Certificate,
             Err(kind) => return Err(CertError::Fault(CertFault { line: number, kind })),
         };
         due = due.after(Version::One, item);
-        cert.take(alloc, item, &leaf)?;
+        cert.take(alloc, item, leaf.as_leaf())?;
         number += 1;
         part = cut_line(rest);
     }
@@ -96,19 +97,21 @@ impl Packed {
             }
             Line::Gap(cents) => self.gap = cents,
             Line::Vector(prices) => self.vectors.push(prices)?,
-            Line::Split { line, at } => self.nodes.push(PackedNode::Split { line, at })?,
+            Line::Split { part, at } => self.nodes.push(PackedNode::Split { part, at })?,
             Line::Point => self.nodes.push(PackedNode::Point)?,
             Line::Closed {
                 rho,
                 mu,
                 vector,
                 changes,
+                weights,
                 ..
             } => self.nodes.push(PackedNode::Closed {
                 rho,
                 mu,
                 vector,
                 changes,
+                weights,
             })?,
             Line::Title(_) | Line::Vectors(_) | Line::Nodes(_) | Line::End => {}
             Line::Leaf(_leaf) => {}
@@ -117,10 +120,15 @@ impl Packed {
     }
 }
 
-// A leaf, by its numbers.
-fn leaf_line(alloc: Global, weighing: Weighing, numbers: &[u64]) -> Result<Line, NoMemory>
+// A leaf, by its numbers before the tail and the weights of the tail.
+fn leaf_line(
+    alloc: Global,
+    weighing: Weighing,
+    numbers: &[u64],
+    weights: &Weights,
+) -> Result<Line, NoMemory>
     requires { AreOfLeaf numbers.now }
-    ensures { IfOk result (λ said. said ≡ line_with weighing item_of.Leaf numbers.now) }
+    ensures { IfOk result (λ said. said ≡ line_with weighing item_of.Leaf numbers.now weights.now) }
 {
     let changes = list_changes::<MOST_DATES>(&numbers[3..]);
     Ok(Line::Closed {
@@ -129,13 +137,20 @@ fn leaf_line(alloc: Global, weighing: Weighing, numbers: &[u64]) -> Result<Line,
         mu: numbers[1],
         vector: numbers[2] as u16,
         changes: Changes::new(changes.as_slice().to_vec(alloc)?),
+        weights: weights.copy(alloc)?,
     })
 }
 
-// What a line says, by its item and its numbers.
-fn line_of(alloc: Global, weighing: Weighing, item: Item, numbers: &[u64]) -> Result<Line, NoMemory>
+// What a line says, by its item, its numbers before a tail and the weights of the tail.
+fn line_of(
+    alloc: Global,
+    weighing: Weighing,
+    item: Item,
+    numbers: &[u64],
+    weights: &Weights,
+) -> Result<Line, NoMemory>
     requires { item ≡ item_of.Leaf → AreOfLeaf numbers.now }
-    ensures { IfOk result (λ said. said ≡ line_with weighing item numbers.now) }
+    ensures { IfOk result (λ said. said ≡ line_with weighing item numbers.now weights.now) }
 {
     Ok(match item {
         Item::Header => Line::Title(Version::Packed(weighing)),
@@ -146,9 +161,9 @@ fn line_of(alloc: Global, weighing: Weighing, item: Item, numbers: &[u64]) -> Re
         Item::Vectors(count) => Line::Vectors(u64::from(count)),
         Item::Vector => Line::Vector(Prices::new(numbers.to_vec(alloc)?)),
         Item::Nodes(count) => Line::Nodes(u64::from(count)),
-        Item::Split { line, at } => Line::Split { line, at },
+        Item::Split { part, at } => Line::Split { part, at },
         Item::Point => Line::Point,
-        Item::Leaf => leaf_line(alloc, weighing, numbers)?,
+        Item::Leaf => leaf_line(alloc, weighing, numbers, weights)?,
         Item::Nothing | Item::End => Line::End,
     })
 }
@@ -166,7 +181,7 @@ pub fn read_packed(alloc: Global, bytes: &[u8], dates: u16) -> Result<Packed, Ce
 {
     let mut numbers = ArrayVec::new();
     let mut vectors = VectorRoom::make(alloc)?;
-    let mut leaf = empty_leaf(alloc, dates)?;
+    let mut leaf = LentLeaf::make(alloc, dates)?;
     let mut packed = Packed::empty(alloc);
     let mut due = Due::Title;
     let mut number = 1;
@@ -186,7 +201,11 @@ pub fn read_packed(alloc: Global, bytes: &[u8], dates: u16) -> Result<Packed, Ce
             Err(kind) => return Err(CertError::Fault(CertFault { line: number, kind })),
         };
         due = due.after(Version::Packed(weighing), item);
-        packed.take(alloc, line_of(alloc, weighing, item, numbers.as_slice())?)?;
+        let weights = &leaf.as_leaf().weights;
+        packed.take(
+            alloc,
+            line_of(alloc, weighing, item, numbers.as_slice(), weights)?,
+        )?;
         number += 1;
         part = cut_line(rest);
     }

@@ -1,6 +1,7 @@
 //! Why bytes are no text of a certificate.
 ghost use Rattle.std.specs.Prelude.{◌≡◌};
 ghost use Rattle.bound_certificate.specs.Faults.{rest_fault as rest_fault_of};
+ghost use Rattle.bound_certificate.specs.Grammar.{earlier as earlier_of, fault_place};
 ghost use Rattle.bound_certificate.specs.declared.fault.CertError.TheVariants as error;
 
 use escrow_desk::NoMemory;
@@ -14,7 +15,7 @@ pub enum FaultKind {
     Header,
     /// A word isn't a number of its range.
     Number,
-    /// A line isn't above the one before, or a price is above the one before.
+    /// A line, a place or a need date of a sum isn't above the one before, or a price is above the one before.
     Order,
     /// The line has another number of words, or the tree closes too early or too late.
     Count,
@@ -22,6 +23,31 @@ pub enum FaultKind {
     Truncated,
     /// Bytes follow the last line.
     Trailing,
+}
+
+impl FaultKind {
+    // Its place in the order in which the faults of a line are answered.
+    fn place(self) -> u8
+        ensures { result ≡ fault_place self }
+    {
+        match self {
+            FaultKind::Header => 0,
+            FaultKind::Count => 1,
+            FaultKind::Number => 2,
+            FaultKind::Order | FaultKind::Truncated | FaultKind::Trailing => 3,
+        }
+    }
+
+    /// The one of two faults of a line that is answered.
+    pub(crate) fn earlier(self, other: FaultKind) -> FaultKind
+        ensures { result ≡ earlier_of self other }
+    {
+        if self.place() <= other.place() {
+            self
+        } else {
+            other
+        }
+    }
 }
 
 /// The first line that isn't one of a certificate.

@@ -1,6 +1,7 @@
 //! What a reader of certificates gives.
 
 use crate::certificate::Buy;
+use proof_tree::Part;
 
 /// What a line says.
 #[derive(Clone, Copy, Debug, PartialEq, Eq)]
@@ -21,10 +22,10 @@ pub enum Item {
     Vector,
     /// How many nodes follow.
     Nodes(u32),
-    /// A split of the range of a line.
+    /// A split of the range of a line, or, in version 3, of a sum.
     Split {
-        /// The line, counted from 0.
-        line: u16,
+        /// The line or the sum.
+        part: Part,
         /// The most units of the left range.
         at: u64,
     },

@@ -19,11 +19,12 @@ pub const MOST_PACKED_BUYS: u64 = 513;
 /// The most vectors of a packed certificate.
 pub const MOST_VECTORS: u64 = 64;
 
-/// The most numbers of a line of a packed certificate: a leaf's three, and two for each need date.
+/// The most numbers of a line of a packed certificate before a tail: a leaf's three, and two for each need date.
 pub(crate) const MOST_NUMBERS: usize = 3 + 2 * MOST_DATES;
 
-/// More bytes than a right line has: a first word of at most 20, and 963 numbers of at most 16 digits, each behind a space.
-pub(crate) const LINE_ROOM: usize = 16_400;
+/// More bytes than a right line has: a first word of at most 20, 963 numbers of at most 16 digits, and a tail of a `t` and 192 such
+/// numbers, each behind a space.
+pub(crate) const LINE_ROOM: usize = 19_700;
 
-/// More spaces than a right line has; so many of them are counted at least.
-pub(crate) const SPACES_COUNTED: u64 = 1_000;
+/// More words than a right line has before its tail, and than its tail has; so many of them are counted at least.
+pub(crate) const WORDS_COUNTED: u64 = 1_000;

@@ -8,7 +8,7 @@ use crate::row::Row;
 use crate::version::Version;
 use crate::weighing::Weighing;
 use line_words::cut_at;
-use proof_tree::{Leaf, PRICE_SCALE, Prices};
+use proof_tree::{Leaf, PRICE_SCALE, Part, Prices, Weights};
 
 /// What a line says.
 #[derive(Debug, Drop)]
@@ -27,16 +27,16 @@ pub(crate) enum Line {
     Vector(Prices),
     /// How many nodes follow.
     Nodes(u64),
-    /// A split of the range of a line.
+    /// A split of the range of a line or of a sum.
     Split {
-        /// The line, counted from 0.
-        line: u16,
+        /// The line or the sum.
+        part: Part,
         /// The most units of the left range.
         at: u64,
     },
     /// A point.
     Point,
-    /// A leaf with changes.
+    /// A leaf of a vector or of stairs, with changes and weights of sums.
     Closed {
         /// How its line says how much it weighs the cost.
         weighing: Weighing,
@@ -44,10 +44,12 @@ pub(crate) enum Line {
         rho: u64,
         /// The multiplier of the yield limit.
         mu: u64,
-        /// The vector, counted from 1.
+        /// The vector, counted from 1; 0 stands for stairs.
         vector: u16,
         /// The other prices.
         changes: Changes,
+        /// The weights of sums.
+        weights: Weights,
     },
     /// A leaf with all its prices.
     Leaf(Leaf),
@@ -83,6 +85,8 @@ pub(crate) fn node_row(version: Version, line: &[u8]) -> Row
         Row::Split
     } else if begins_with(b"p", line) {
         Row::Point
+    } else if version.has_sums() && begins_with(b"t", line) {
+        Row::SumSplit
     } else {
         version.leaf_row()
     }

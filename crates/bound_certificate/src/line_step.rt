@@ -10,14 +10,15 @@ ghost use Rattle.bound_certificate.specs.declared.text_reading.Stage.TheVariants
 use crate::due::Due;
 use crate::fault::FaultKind;
 use crate::item::Item;
+use crate::lent_leaf::LentLeaf;
 use crate::limits::MOST_DATES;
 use crate::long_line::long_fault;
 use crate::row::Numbers;
+use crate::seen::Seen;
 use crate::taken::take_line;
 use crate::text_reading::Stage;
 use crate::vector_room::VectorRoom;
 use crate::version::Version;
-use proof_tree::Leaf;
 
 /// What a line says, and what may stand behind it.
 #[derive(Clone, Copy, Debug, PartialEq, Eq)]
@@ -34,7 +35,7 @@ fn take_due(
     vectors: &mut VectorRoom,
     line: &[u8],
     numbers: &mut Numbers,
-    leaf: &mut Leaf,
+    leaf: &mut LentLeaf,
 ) -> Result<Step, FaultKind>
     requires dates { dates ≤ MOST_DATES }
     requires leaf { length leaf.old.prices ≡ dates }
@@ -68,7 +69,7 @@ pub(crate) fn take_step(
     vectors: &mut VectorRoom,
     line: &[u8],
     numbers: &mut Numbers,
-    leaf: &mut Leaf,
+    leaf: &mut LentLeaf,
 ) -> Result<Step, FaultKind>
     requires dates { dates ≤ MOST_DATES }
     requires leaf { length leaf.old.prices ≡ dates }
@@ -97,13 +98,13 @@ pub(crate) fn take_step(
     }
 }
 
-/// Why a line that is longer than any right one may not stand where it stands, by its first bytes and how many spaces it has.
-pub(crate) fn long_step(stage: Stage, dates: u16, head: &[u8], spaces: u64) -> FaultKind
+/// Why a line that is longer than any right one may not stand where it stands, by its first bytes and what its words are.
+pub(crate) fn long_step(stage: Stage, dates: u16, head: &[u8], seen: Seen) -> FaultKind
     requires { dates ≤ MOST_DATES }
-    ensures { (vectors : List (List ℕ)) (line : List ℕ) → IsLongLine head.now spaces line → Stops dates stage vectors line result }
+    ensures { (vectors : List (List ℕ)) (line : List ℕ) → IsLongLine head.now seen line → Stops dates stage vectors line result }
 {
     match stage {
-        Stage::First => long_fault(Version::One, Due::Title, dates, head, spaces),
-        Stage::Later { version, due } => long_fault(version, due, dates, head, spaces),
+        Stage::First => long_fault(Version::One, Due::Title, dates, head, seen),
+        Stage::Later { version, due } => long_fault(version, due, dates, head, seen),
     }
 }

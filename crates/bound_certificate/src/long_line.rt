@@ -1,6 +1,6 @@
 //! Lines longer than any right one.
 ghost use Rattle.std.specs.Prelude.{◌≡◌, ◌≤◌, List, ℕ, Err};
-ghost use Rattle.bound_certificate.specs.Grammar.{line_said, row_line};
+ghost use Rattle.bound_certificate.specs.Grammar.{line_said, node_said};
 ghost use Rattle.bound_certificate.specs.LongLine.{IsLongLine};
 
 use crate::due::Due;
@@ -8,39 +8,40 @@ use crate::fault::FaultKind;
 use crate::limits::MOST_DATES;
 use crate::line::{begins_with, node_row};
 use crate::row::Row;
+use crate::seen::Seen;
 use crate::version::Version;
 
 // Which fault a long line has that may begin with no other word than a row's.
-fn long_row_fault(row: Row, may: bool, dates: u16, head: &[u8], spaces: u64) -> FaultKind
+fn long_row_fault(row: Row, may: bool, dates: u16, head: &[u8], seen: Seen) -> FaultKind
     requires { dates ≤ MOST_DATES }
-    ensures { (vectors : List (List ℕ)) (line : List ℕ) → IsLongLine head.now spaces line → row_line dates vectors row may line ≡ Err result }
+    ensures { (vectors : List (List ℕ)) (line : List ℕ) → IsLongLine head.now seen line → node_said dates vectors row may line ≡ Err result }
 {
     if !begins_with(row.word(), head) {
         return FaultKind::Header;
     }
-    if !may || !row.fits(dates, spaces as usize) {
+    if !may || !seen.fits(row, dates) {
         return FaultKind::Count;
     }
     FaultKind::Number
 }
 
-/// Which fault a line has that is longer than any right one, by its first bytes and how many spaces it has.
+/// Which fault a line has that is longer than any right one, by its first bytes and what its words are.
 pub(crate) fn long_fault(
     version: Version,
     due: Due,
     dates: u16,
     head: &[u8],
-    spaces: u64,
+    seen: Seen,
 ) -> FaultKind
     requires { dates ≤ MOST_DATES }
-    ensures { (vectors : List (List ℕ)) (line : List ℕ) → IsLongLine head.now spaces line → line_said version dates vectors due line ≡ Err result }
+    ensures { (vectors : List (List ℕ)) (line : List ℕ) → IsLongLine head.now seen line → line_said version dates vectors due line ≡ Err result }
 {
     let row = match due {
         Due::Title => return FaultKind::Header,
         Due::End { trees } if trees > 0 => return FaultKind::Count,
         Due::Nothing => return FaultKind::Trailing,
         Due::Node { trees, .. } => {
-            return long_row_fault(node_row(version, head), trees > 0, dates, head, spaces);
+            return long_row_fault(node_row(version, head), trees > 0, dates, head, seen);
         }
         Due::Portfolio => Row::Portfolio {
             most: version.most_buys(),
@@ -52,5 +53,5 @@ pub(crate) fn long_fault(
         Due::Count => Row::Nodes,
         Due::End { .. } => Row::End,
     };
-    long_row_fault(row, true, dates, head, spaces)
+    long_row_fault(row, true, dates, head, seen)
 }

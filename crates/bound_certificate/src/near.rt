@@ -1,7 +1,8 @@
-//! Whether prices rise after changes to prices that never rise.
-ghost use Rattle.std.specs.Prelude.{◌≡◌, ◌+◌, ◌-◌, ◌<◌, ◌≤◌, ◌||◌, AllPairs, List, ℕ, length, nat_lt, slice_index};
+//! Whether prices rise after changes to prices that never rise, or in stairs.
+ghost use Rattle.std.specs.Prelude.{◌≡◌, ◌+◌, ◌-◌, ◌<◌, ◌||◌, List, Option, ℕ, length, nat_lt, slice_index};
 ghost use Rattle.bound_certificate.specs.Grammar.{ArePlaces, rises};
 ghost use Rattle.bound_certificate.specs.Packed.{changed};
+ghost use Rattle.bound_certificate.specs.Taken.{IsBase};
 
 use crate::packed::Change;
 
@@ -19,11 +20,11 @@ fn rises_at(prices: &[u64], place: usize) -> bool
     before < prices[place] || prices[place] < behind
 }
 
-/// Whether a price is above the one before, where the prices are a vector's after changes: those of the vector never rise, so that
-/// it can be so beside a change alone.
+/// Whether a price is above the one before, where the prices are a vector's after changes or stairs: those of the vector never rise, and
+/// stairs are level but at their steps, so that it can be so beside a change alone.
 pub(crate) fn rises_near(prices: &[u64], changes: &[Change]) -> bool
     requires { ArePlaces (length prices.now) changes.now }
-    ensures { (vector : List ℕ) → AllPairs (λ earlier later. later ≤ earlier) vector → prices.now ≡ changed vector changes.now → result ≡ rises prices.now }
+    ensures { (dates : ℕ) (vector : Option (List ℕ)) → IsBase dates vector → prices.now ≡ changed dates vector changes.now → result ≡ rises prices.now }
 {
     for change in changes {
         if rises_at(prices, usize::from(change.place) - 1) {

@@ -3,10 +3,10 @@ ghost use Rattle.std.specs.Prelude.{◌≡◌, ◌++◌, ◌∷◌, [], OnOk};
 
 use crate::certificate::Buys;
 use escrow_desk::NoMemory;
-use proof_tree::Prices;
+use proof_tree::{Part, Prices, Weights};
 use std::marker::Model;
 
-/// Another price than a vector's own, on one need date.
+/// Another price than a vector's own, on one need date; of stairs another than the one before it, from one need date on.
 #[derive(Clone, Copy, Debug, Default, PartialEq, Eq)]
 pub struct Change {
     /// The need date, counted from 1.
@@ -56,26 +56,29 @@ impl Changes {
 /// A node of a packed tree, in preorder.
 #[derive(Debug, Drop)]
 pub enum PackedNode {
-    /// The range of a line is split: on the left up to a number of units, on the right from one more. The left subtree
-    /// follows, and then the right one.
+    /// The range of a line or of a sum is split: on the left up to a number of units, on the right from one more. The left
+    /// subtree follows, and then the right one.
     Split {
-        /// The line, counted from 0.
-        line: u16,
+        /// The line or the sum.
+        part: Part,
         /// The most units of the left range.
         at: u64,
     },
     /// Each range is a single number of units.
     Point,
-    /// A leaf, whose prices are those of a vector, with another one at some places.
+    /// A leaf, whose prices are those of a vector, with another one at some places; or stairs: the greatest price, and from each
+    /// place on another one, up to the next.
     Closed {
         /// The weight of a cent of cost, in units of 1 / `PRICE_SCALE`, from 0 to `PRICE_SCALE`.
         rho: u64,
         /// The multiplier of the yield limit, at most `PRICE_SCALE`.
         mu: u64,
-        /// The vector, counted from 1.
+        /// The vector, counted from 1; 0 stands for stairs, which version 3 alone has.
         vector: u16,
         /// The other prices.
         changes: Changes,
+        /// The weights of sums, which version 3 alone has.
+        weights: Weights,
     },
 }
 

@@ -1,10 +1,10 @@
 //! The part of a line that came, where the line hasn't ended.
-ghost use Rattle.std.specs.Prelude.{◌≡◌, ◌≤◌, ◌+◌, ◌++◌, ◌==◌, ◌||◌, nat_lt, [], List, ℕ, IfOk, length, take};
+ghost use Rattle.std.specs.Prelude.{◌≡◌, ◌≤◌, ◌+◌, ◌++◌, ◌==◌, ◌||◌, nat_lt, if◌then◌else◌, true, [], List, ℕ, IfOk, length, take};
 ghost use Rattle.bound_certificate.specs.Kept.{IsKept};
-ghost use Rattle.bound_certificate.specs.LongLine.{IsCounted};
+ghost use Rattle.bound_certificate.specs.LongLine.{seen_of};
 
-use crate::limits::{LINE_ROOM, SPACES_COUNTED};
-use crate::row::count_spaces;
+use crate::limits::LINE_ROOM;
+use crate::seen::Seen;
 use escrow_desk::NoMemory;
 use std::alloc::Global;
 use std::marker::Model;
@@ -14,20 +14,21 @@ use std::marker::Model;
 pub(crate) struct Part {
     room: Vec<u8>,
     size: usize,
-    spaces: u64,
     long: bool,
+    // What its words are, where it is longer than any right line.
+    seen: Seen,
 }
 
 impl Model for Part {
     ghost use Rattle.std.specs.Prelude.{◌≡◌, ◌≤◌, length, take};
     ghost use Rattle.bound_certificate.specs.Kept.{Kept};
-    ghost use Rattle.bound_certificate.specs.declared.limits.TheConstants.{LINE_ROOM, SPACES_COUNTED};
+    ghost use Rattle.bound_certificate.specs.declared.limits.TheConstants.{LINE_ROOM};
 
     ghost Value = { Kept };
 
-    ghost view = { λ p. record { head = take p.size p.room.items; spaces = p.spaces; long = p.long } };
+    ghost view = { λ p. record { head = take p.size p.room.items; long = p.long; seen = p.seen } };
 
-    ghost invariant = { λ p. (length p.room.items ≡ LINE_ROOM) × (p.size ≤ LINE_ROOM) × (p.spaces ≤ SPACES_COUNTED) };
+    ghost invariant = { λ p. (length p.room.items ≡ LINE_ROOM) × (p.size ≤ LINE_ROOM) };
 }
 
 impl Part {
@@ -43,8 +44,8 @@ impl Part {
         Ok(Part {
             room,
             size: 0,
-            spaces: 0,
             long: false,
+            seen: Seen::nothing(),
         })
     }
 
@@ -54,11 +55,23 @@ impl Part {
         ensures { (before : List ℕ) → IsKept before self.old → IsKept (before ++ bytes.now) self.new }
     {
         let left = LINE_ROOM - self.size;
+        let long = is_longer(self.long, left, bytes.len());
+        self.seen = self.seen_more(long, bytes);
         let fitting = front_of(bytes, left);
         put_at(&mut self.room, self.size, fitting);
         self.size += fitting.len();
-        self.long = is_longer(self.long, left, bytes.len());
-        self.spaces = more_spaces(self.spaces, count_spaces(bytes));
+        self.long = long;
+    }
+
+    // What the words are with more bytes, where the line is then longer than any right one.
+    fn seen_more(&self, long: bool, bytes: &[u8]) -> Seen
+        ensures { (before : List ℕ) → IsKept before self.now → long ≡ true → result ≡ seen_of (before ++ bytes.now) }
+    {
+        let head = self.head();
+        if !long {
+            return self.seen;
+        }
+        seen_before(self.long, self.seen, head).with_all(bytes)
     }
 
     /// Of no bytes again.
@@ -66,7 +79,6 @@ impl Part {
         ensures { IsKept [] self.new }
     {
         self.size = 0;
-        self.spaces = 0;
         self.long = false;
     }
 
@@ -84,12 +96,11 @@ impl Part {
         &self.room[..self.size]
     }
 
-    /// How many spaces came, up to a thousand.
-    pub fn spaces(&self) -> u64
-        ensures { result ≡ self.now.spaces }
+    /// What the words of a line are that is longer than any right one.
+    pub fn seen(&self) -> Seen
+        ensures { result ≡ self.now.seen }
     {
-        let _ = &self.room;
-        self.spaces
+        self.seen
     }
 
     /// Whether the line is longer than any right one.
@@ -100,17 +111,14 @@ impl Part {
     }
 }
 
-// Spaces and some more, up to a thousand.
-fn more_spaces(spaces: u64, more: usize) -> u64
-    requires { spaces ≤ SPACES_COUNTED }
-    ensures most { result ≤ SPACES_COUNTED }
-    ensures count { (count : ℕ) → IsCounted count spaces → IsCounted (count + more) result }
+// What the words of the bytes so far are: they are looked at where the line wasn't longer than any right one before.
+fn seen_before(long: bool, seen: Seen, head: &[u8]) -> Seen
+    ensures { result ≡ (if long then seen else seen_of head.now) }
 {
-    let left = SPACES_COUNTED - spaces;
-    if more < left as usize {
-        spaces + more as u64
+    if long {
+        seen
     } else {
-        SPACES_COUNTED
+        Seen::nothing().with_all(head)
     }
 }
 

@@ -4,9 +4,9 @@ ghost use Rattle.bound_certificate.specs.declared.due.Due.TheVariants as due;
 ghost use Rattle.bound_certificate.specs.declared.item.Item.TheVariants as item_of;
 ghost use Rattle.bound_certificate.specs.TextReading.{Finishes, HasRead, Reads, ReadsFault, TakesLine, stage_due};
 
-use crate::certificate::empty_leaf;
 use crate::fault::{CertFault, FaultKind};
 use crate::item::{Fed, Item};
+use crate::lent_leaf::LentLeaf;
 use crate::limits::MOST_DATES;
 use crate::part::Part;
 use crate::row::Numbers;
@@ -76,7 +76,7 @@ impl CertReader {
             stage: Stage::First,
             vectors: VectorRoom::make(alloc)?,
             part: Part::make(alloc)?,
-            leaf: empty_leaf(alloc, dates)?,
+            leaf: LentLeaf::make(alloc, dates)?,
             fault: None,
         };
         let numbers = numbers_room(alloc)?;
@@ -120,10 +120,10 @@ impl CertReader {
     pub fn leaf(&self) -> &Leaf
         ensures { result.now ≡ self.now.leaf }
     {
-        &self.reading.leaf
+        self.reading.leaf.as_leaf()
     }
 
-    /// The vector whose prices those of the leaf that was read last are but for its changes, counted from 0; 0 in version 1. It shows
+    /// The vector whose prices those of the leaf that was read last are but for its changes, counted from 0; 0 in version 1 and of stairs. It shows
     /// which leaves are near to each other, and nothing rests on it. It takes no memory.
     pub fn vector(&self) -> usize {
         match (self.reading.stage, self.numbers.as_slice().get(2)) {

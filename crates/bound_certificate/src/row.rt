@@ -1,7 +1,9 @@
 //! A line of a word and numbers, at hand whole.
-ghost use Rattle.std.specs.Prelude.{◌≡◌, ◌≤◌, ◌+◌, ◌==◌, ℕ, [], IfSome, IsTrue, MatchResult, Ok, Err, None, Some, length, count_by};
+ghost use Rattle.std.specs.Prelude.{◌≡◌, ◌≢◌, ◌≤◌, ◌+◌, ◌==◌, ℕ, [], false, IfSome, IsTrue, MatchResult, Ok, Err, None, Some, length, count_by};
 ghost use Rattle.bound_certificate.specs.declared.fault.FaultKind.TheVariants as kind;
-ghost use Rattle.bound_certificate.specs.Row.{ArePricesBehind, AreReadTo, IsNextOf, leaf_range as leaf_range_of, numbers_by, price_range, row_fits, row_range, row_said, row_word, weight_range as weight_range_of};
+ghost use Rattle.bound_certificate.specs.declared.row.Row.TheVariants as row_of;
+ghost use Rattle.bound_certificate.specs.declared.weighing.Weighing.TheVariants as weighing_of;
+ghost use Rattle.bound_certificate.specs.Row.{ArePricesBehind, AreReadTo, IsNextOf, leaf_range as leaf_range_of, numbers_by, price_range, row_fits, row_range, row_said, row_word, tail_range as tail_range_of, weight_range as weight_range_of};
 ghost use Rattle.line_words.specs.Words.{parts_behind};
 
 use crate::fault::FaultKind;
@@ -9,7 +11,7 @@ use crate::limits::{MOST_DATES, MOST_NODES, MOST_NUMBERS, MOST_VECTORS};
 use crate::weighing::Weighing;
 use arrayvec::ArrayVec;
 use line_words::{Range, Taken, cut_at, digit_count, front_number_in, quick_front_number};
-use proof_tree::{GREATEST_UNITS, PRICE_SCALE};
+use proof_tree::{GREATEST_UNITS, MOST_WEIGHTS, PRICE_SCALE};
 
 // So many bytes at most are gone through before spaces are summed up: a byte counts them.
 const FEW_BYTES: usize = 128;
@@ -32,14 +34,18 @@ pub(crate) enum Row {
     Vector,
     /// `nodes`: how many.
     Nodes,
-    /// `s`: a split.
+    /// `s`: a split of a line.
     Split,
+    /// `t`: a split of a sum.
+    SumSplit,
     /// `p`: a point.
     Point,
     /// `l`: a leaf with all its prices.
     Priced,
-    /// `l`: a leaf of a vector, with changes, that weighs the cost so.
+    /// `l`: a leaf of a vector or of stairs, with changes, that weighs the cost so. In version 3 it may have a tail, which is a row of its own.
     Leaf(Weighing),
+    /// `t`: the tail of a leaf's line, with weights of sums.
+    Tail,
     /// `end`.
     End,
 }
@@ -69,9 +75,20 @@ fn leaf_range(weighing: Weighing, dates: u16, vectors: u16, place: usize) -> Ran
     match place {
         1 => Range::new(0, weighing.most()),
         2 => Range::new(0, PRICE_SCALE),
-        3 => Range::new(1, u64::from(vectors)),
+        3 => Range::new(weighing.least_vector(), u64::from(vectors)),
         _ if place % 2 == 0 => Range::new(1, u64::from(dates)),
         _ => price(),
+    }
+}
+
+// The range of the number at a place of a tail, from 1.
+fn tail_range(dates: u16, place: usize) -> Range
+    ensures { result ≡ tail_range_of dates place }
+{
+    match place % 3 {
+        1 => Range::new(1, u64::from(dates)),
+        2 => Range::new(0, 1),
+        _ => Range::new(1, PRICE_SCALE),
     }
 }
 
@@ -88,9 +105,33 @@ impl Row {
             Row::Vector => b"v",
             Row::Nodes => b"nodes",
             Row::Split => b"s",
+            Row::SumSplit | Row::Tail => b"t",
             Row::Point => b"p",
             Row::Priced | Row::Leaf(_) => b"l",
             Row::End => b"end",
+        }
+    }
+
+    /// Whether it is that of a leaf of version 3, whose line may have a tail.
+    pub(crate) fn may_have_tail(self) -> bool
+        ensures yes { IsTrue result → self ≡ row_of.Leaf weighing_of.Number }
+        ensures no { result ≡ false → self ≢ row_of.Leaf weighing_of.Number }
+    {
+        match self {
+            Row::Leaf(Weighing::Number) => true,
+            Row::Leaf(Weighing::WholeOrNone)
+            | Row::Portfolio { .. }
+            | Row::Buy { .. }
+            | Row::Gap { .. }
+            | Row::Vectors
+            | Row::Vector
+            | Row::Nodes
+            | Row::Split
+            | Row::SumSplit
+            | Row::Point
+            | Row::Priced
+            | Row::Tail
+            | Row::End => false,
         }
     }
 
@@ -102,11 +143,12 @@ impl Row {
         let dates = usize::from(dates);
         match self {
             Row::Portfolio { .. } | Row::Gap { .. } | Row::Vectors | Row::Nodes => count == 1,
-            Row::Buy { .. } | Row::Split => count == 2,
+            Row::Buy { .. } | Row::Split | Row::SumSplit => count == 2,
             Row::Point | Row::End => count == 0,
             Row::Vector => count == dates,
             Row::Priced => count == 2 + dates,
             Row::Leaf(_) => 3 <= count && count <= 3 + 2 * dates && count % 2 == 1,
+            Row::Tail => 3 <= count && count <= 3 * MOST_WEIGHTS && count % 3 == 0,
         }
     }
 
@@ -122,9 +164,11 @@ impl Row {
             Row::Vector => price(),
             Row::Nodes => Range::new(1, MOST_NODES),
             Row::Split if place == 1 => Range::new(0, 65_535),
-            Row::Split => Range::new(0, GREATEST_UNITS),
+            Row::SumSplit if place == 1 => Range::new(1, u64::from(dates)),
+            Row::Split | Row::SumSplit => Range::new(0, GREATEST_UNITS),
             Row::Priced => weight_range(place),
             Row::Leaf(weighing) => leaf_range(weighing, dates, vectors, place),
+            Row::Tail => tail_range(dates, place),
             Row::Point | Row::End => Range::new(0, 0),
         }
     }
@@ -233,8 +277,8 @@ fn few_spaces(bytes: &[u8]) -> u8
     spaces
 }
 
-/// How many spaces a line has.
-pub(crate) fn count_spaces(line: &[u8]) -> usize
+// How many spaces a line has.
+fn count_spaces(line: &[u8]) -> usize
     ensures { result ≡ count_by (λ byte. byte == 32) line.now }
 {
     let mut spaces = 0;

@@ -11,13 +11,13 @@ ghost use Rattle.bound_certificate.specs.declared.item.Item.TheVariants as item_
 use crate::due::Due;
 use crate::fault::{CertFault, FaultKind};
 use crate::item::{Fed, Item};
+use crate::lent_leaf::LentLeaf;
 use crate::limits::MOST_DATES;
 use crate::line_step::{Step, long_step, take_step};
 use crate::part::Part;
 use crate::row::Numbers;
 use crate::vector_room::VectorRoom;
 use crate::version::Version;
-use proof_tree::Leaf;
 
 /// What may stand on the next line.
 #[derive(Clone, Copy, Debug, PartialEq, Eq)]
@@ -40,7 +40,7 @@ pub(crate) struct TextReading {
     /// What came of the line.
     pub part: Part,
     /// The leaf that was read last.
-    pub leaf: Leaf,
+    pub leaf: LentLeaf,
     /// Why the line isn't one of a certificate; nothing more is read then.
     pub fault: Option<CertFault>,
 }
@@ -58,11 +58,11 @@ impl Stage {
 }
 
 // For how many need dates a leaf has prices.
-fn dates_of(leaf: &Leaf) -> u16
+fn dates_of(leaf: &LentLeaf) -> u16
     requires { length leaf.now.prices ≤ MOST_DATES }
     ensures { result ≡ length leaf.now.prices }
 {
-    leaf.prices.as_slice().len() as u16
+    leaf.as_leaf().prices.as_slice().len() as u16
 }
 
 impl TextReading {
@@ -125,7 +125,7 @@ impl TextReading {
         }
         self.part.add(front);
         if self.part.is_long() {
-            return Err(long_step(self.stage, dates, self.part.head(), self.part.spaces()));
+            return Err(long_step(self.stage, dates, self.part.head(), self.part.seen()));
         }
         take_step(
             self.stage,

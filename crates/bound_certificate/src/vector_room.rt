@@ -1,5 +1,6 @@
 //! Room for the vectors of a packed certificate.
-ghost use Rattle.std.specs.Prelude.{◌≡◌, ◌≤◌, ◌<◌, ◌++◌, ◌∷◌, [], IfOk, length, slice_index_or};
+ghost use Rattle.std.specs.Prelude.{◌≡◌, ◌≤◌, ◌<◌, ◌++◌, ◌∷◌, [], IfOk, length, option_map};
+ghost use Rattle.bound_certificate.specs.Packed.{vector_of};
 
 use crate::limits::{MOST_DATES, MOST_VECTORS};
 use arrayvec::ArrayVec;
@@ -82,12 +83,15 @@ impl VectorRoom {
         self.vectors.len() as u16
     }
 
-    /// The prices of the vector at a place, from 0.
-    pub(crate) fn at(&self, place: usize) -> &[u64]
-        requires { place < length self.now }
-        ensures { result.now ≡ slice_index_or self.now place [] }
+    /// The prices of the vector of a number, from 1; 0 names none.
+    pub(crate) fn of(&self, number: u16) -> Option<&[u64]>
+        requires { number ≤ length self.now }
+        ensures { option_map (λ prices. prices.now) result ≡ vector_of self.now number }
     {
-        self.vectors[place].as_slice()
+        if number == 0 {
+            return None;
+        }
+        Some(self.vectors[usize::from(number) - 1].as_slice())
     }
 
     /// One more, of at most 480 prices, where fewer than 64 came.

@@ -1,6 +1,6 @@
 //! The versions of a certificate's text.
 ghost use Rattle.std.specs.Prelude.{◌≡◌};
-ghost use Rattle.bound_certificate.specs.Grammar.{leaf_row as leaf_row_of, most_buys as most_buys_of, title_version as title_version_of, title_weighing as title_weighing_of, title_word};
+ghost use Rattle.bound_certificate.specs.Grammar.{has_sums as has_sums_of, leaf_row as leaf_row_of, most_buys as most_buys_of, title_version as title_version_of, title_weighing as title_weighing_of, title_word};
 
 use crate::limits::{MOST_BUYS, MOST_PACKED_BUYS};
 use crate::row::Row;
@@ -47,6 +47,13 @@ impl Version {
             Version::One => MOST_BUYS,
             Version::Packed(_) => MOST_PACKED_BUYS,
         }
+    }
+
+    /// Whether it has splits of sums: version 3 alone has them.
+    pub(crate) fn has_sums(self) -> bool
+        ensures { result ≡ has_sums_of self }
+    {
+        matches!(self, Version::Packed(Weighing::Number))
     }
 
     /// How its leaves are written.

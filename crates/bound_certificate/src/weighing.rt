@@ -1,6 +1,6 @@
 //! How a leaf's line says how much it weighs the cost.
 ghost use Rattle.std.specs.Prelude.{◌≡◌};
-ghost use Rattle.bound_certificate.specs.Weights.{most_weight, rho_number, rho_said};
+ghost use Rattle.bound_certificate.specs.Weights.{least_vector as least_vector_of, most_weight, rho_number, rho_said};
 
 use proof_tree::PRICE_SCALE;
 
@@ -9,7 +9,7 @@ use proof_tree::PRICE_SCALE;
 pub(crate) enum Weighing {
     /// By 1, where the cost counts wholly, or 0, where it doesn't count: in versions 1 and 2.
     WholeOrNone,
-    /// By the weight itself: in version 3.
+    /// By the weight itself: in version 3, which alone has stairs, and splits and weights of sums.
     Number,
 }
 
@@ -21,6 +21,16 @@ impl Weighing {
         match self {
             Weighing::WholeOrNone => 1,
             Weighing::Number => PRICE_SCALE,
+        }
+    }
+
+    /// The least number of a vector: 0 stands for stairs.
+    pub(crate) fn least_vector(self) -> u64
+        ensures { result ≡ least_vector_of self }
+    {
+        match self {
+            Weighing::WholeOrNone => 1,
+            Weighing::Number => 0,
         }
     }
 

@@ -4,7 +4,8 @@ ghost use Rattle.std.specs.Fmt.{decimal};
 ghost use Rattle.std.specs.List.{flat_map, list_all};
 ghost use Rattle.bound_certificate.specs.Grammar.{title_word};
 ghost use Rattle.bound_certificate.specs.Packed.{IsPackedWritable};
-ghost use Rattle.bound_certificate.specs.Text.{change_numbers, is_plain as is_plain_of, line_text, numbered, packed_line, packed_text_of, packed_weighing, portfolio_lines, spaced_numbers};
+ghost use Rattle.bound_certificate.specs.Text.{change_numbers, is_plain as is_plain_of, line_text, numbered, packed_line, packed_text_of, packed_weighing, portfolio_lines, spaced_numbers, split_number as split_number_of, split_word as split_word_of, tail_text, weight_numbers};
+ghost use Rattle.bound_certificate.specs.Weights.{side_number as side_number_of};
 ghost use Rattle.bound_certificate.specs.declared.line.Line.TheVariants as line;
 
 use crate::certificate::{Buy, Buys};
@@ -13,7 +14,7 @@ use crate::version::Version;
 use crate::weighing::Weighing;
 use escrow_desk::NoMemory;
 use itoa::Buffer;
-use proof_tree::{PRICE_SCALE, Prices};
+use proof_tree::{PRICE_SCALE, Part, Prices, Side, SumWeight};
 use std::alloc::Global;
 
 /// Adds a space and a number.
@@ -83,6 +84,33 @@ pub(crate) fn push_begin(
     push_line(text, b"gap", &[gap])
 }
 
+// The first word of the line of a split.
+fn split_word(part: Part) -> &'static [u8]
+    ensures { result.now ≡ split_word_of part }
+{
+    match part {
+        Part::Line(_) => b"s",
+        Part::Sum(_) => b"t",
+    }
+}
+
+// The number of what is split: a line counts from 0, and the need date of a sum from 1.
+fn split_number(part: Part) -> u64
+    ensures { result ≡ split_number_of part }
+{
+    match part {
+        Part::Line(line) => u64::from(line),
+        Part::Sum(sum) => u64::from(sum) + 1,
+    }
+}
+
+/// Adds the line of a split.
+pub(crate) fn push_split(text: &mut Vec<u8>, part: Part, at: u64) -> Result<(), NoMemory>
+    ensures { OnOk result (text.new.items ≡ text.old.items ++ line_text (line.Split part at)) }
+{
+    push_line(text, split_word(part), &[split_number(part), at])
+}
+
 // Adds the place and the price of each change.
 fn push_changes(text: &mut Vec<u8>, changes: &[Change]) -> Result<(), NoMemory>
     ensures { OnOk result (text.new.items ≡ text.old.items ++ spaced_numbers (change_numbers changes.now)) }
@@ -91,6 +119,38 @@ fn push_changes(text: &mut Vec<u8>, changes: &[Change]) -> Result<(), NoMemory>
         push_numbers(text, &[u64::from(change.place), change.price])?;
     }
     Ok(())
+}
+
+// The number that says a side.
+fn side_number(side: Side) -> u64
+    ensures { result ≡ side_number_of side }
+{
+    match side {
+        Side::AtMost => 0,
+        Side::AtLeast => 1,
+    }
+}
+
+// Adds the need date of the sum, counted from 1, the side and the weight of each weight.
+fn push_weights(text: &mut Vec<u8>, weights: &[SumWeight]) -> Result<(), NoMemory>
+    ensures { OnOk result (text.new.items ≡ text.old.items ++ spaced_numbers (weight_numbers weights.now)) }
+{
+    for own in weights {
+        let date = u64::from(own.sum) + 1;
+        push_numbers(text, &[date, side_number(own.side), own.weight])?;
+    }
+    Ok(())
+}
+
+// Adds the tail of a leaf's line, where it has weights of sums.
+fn push_tail(text: &mut Vec<u8>, weights: &[SumWeight]) -> Result<(), NoMemory>
+    ensures { OnOk result (text.new.items ≡ text.old.items ++ tail_text weights.now) }
+{
+    if weights.is_empty() {
+        return Ok(());
+    }
+    text.extend_from_slice(b" t")?;
+    push_weights(text, weights)
 }
 
 // Adds the line of a node.
@@ -102,17 +162,19 @@ fn push_packed_node(
     ensures { OnOk result (text.new.items ≡ text.old.items ++ line_text (packed_line weighing node.now)) }
 {
     match node {
-        PackedNode::Split { line, at } => push_line(text, b"s", &[*line as u64, *at]),
+        PackedNode::Split { part, at } => push_split(text, *part, *at),
         PackedNode::Point => push_line(text, b"p", &[]),
         PackedNode::Closed {
             rho,
             mu,
             vector,
             changes,
+            weights,
         } => {
             text.push(b'l')?;
             push_numbers(text, &[weighing.number(*rho), *mu, u64::from(*vector)])?;
             push_changes(text, changes.as_slice())?;
+            push_tail(text, weights.as_slice())?;
             text.push(b'\n')?;
             Ok(())
         }
@@ -143,17 +205,24 @@ fn push_vectors(text: &mut Vec<u8>, vectors: &[Prices]) -> Result<(), NoMemory>
     Ok(())
 }
 
-// Whether the cost counts wholly at a leaf, or not at all; of other nodes it is so.
+// Whether version 2 can say a node: the split of a line, a point, or a leaf of a vector, without weights of sums, at which the cost counts
+// wholly or not at all.
 fn is_plain(node: &PackedNode) -> bool
     ensures { result ≡ is_plain_of node.now }
 {
     match node {
-        PackedNode::Closed { rho, .. } => *rho == 0 || *rho == PRICE_SCALE,
+        PackedNode::Split {
+            part: Part::Sum(_),
+            ..
+        } => false,
+        PackedNode::Closed { weights, .. } if !weights.as_slice().is_empty() => false,
+        PackedNode::Closed { rho, vector, .. } => (*rho == 0 || *rho == PRICE_SCALE)
+            && *vector >= 1,
         _ => true,
     }
 }
 
-// Whether the cost counts wholly at each leaf, or not at all.
+// Whether version 2 can say each node.
 fn are_plain(nodes: &[PackedNode]) -> bool
     ensures { result ≡ list_all is_plain_of nodes.now }
 {
@@ -165,7 +234,7 @@ fn are_plain(nodes: &[PackedNode]) -> bool
     true
 }
 
-// How the leaves of a tree say how much they weigh the cost.
+// The version of a tree: 2 where it can say each node, and else 3.
 fn weighing_of(nodes: &[PackedNode]) -> Weighing
     ensures { result ≡ packed_weighing nodes.now }
 {
@@ -176,7 +245,8 @@ fn weighing_of(nodes: &[PackedNode]) -> Weighing
     }
 }
 
-/// The text of a packed certificate: in version 2 where the cost counts wholly or not at all at each leaf, and else in version 3.
+/// The text of a packed certificate: in version 2 where no sum is split or weighed, and each leaf is of a vector and the cost counts
+/// wholly or not at all there, and else in version 3.
 ///
 /// # Errors
 ///

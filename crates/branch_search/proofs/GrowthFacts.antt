@@ -10,15 +10,15 @@ use Rattle.std.proofs.lemmas.List.Sums.{sum_by-append}
 use Rattle.case_file.specs.Case.{CaseContents}
 use Rattle.dual_bound.proofs.BoundSizes.{bound-small}
 use Rattle.node_ranges.proofs.CostFacts.{cost-rises}
-use Rattle.node_ranges.proofs.RangeFacts.{tight-ordered, tight-room}
+use Rattle.node_ranges.proofs.RangeFacts.{tight-of, tight-ordered}
 use Rattle.node_ranges.proofs.RangeLaws.{root_is_tight, sides_are_tight}
 use Rattle.dual_bound.specs.LeafBound.{bound_of, least_cost_of}
 use Rattle.node_ranges.specs.Claims.{least_cost}
-use Rattle.node_ranges.specs.Ranges.{AreTight, is_proper, narrowed}
+use Rattle.node_ranges.specs.Ranges.{AreTight, RangesContents, is_proper, narrowed}
 use Rattle.price_lp.specs.declared.proposing.TheConstants.{LEAST_WEIGHT}
 use Rattle.proof_tree.specs.Tree.{IsLeaf}
-use Rattle.proof_tree.specs.declared.interval.Interval.{Interval}
 use Rattle.proof_tree.specs.declared.tree.Leaf.{Leaf}
+use Rattle.proof_tree.specs.declared.tree.Part.TheVariants as part
 use Rattle.halving_tree.specs.Halving.{IsHalved}
 use Rattle.node_pool.proofs.PoolFacts.{count-set, one_if}
 use Rattle.node_pool.proofs.WayFacts.{ways-tight}
@@ -47,43 +47,43 @@ use Rattle.branch_search.specs.Growth.{IsFullTree, IsSide, left_to_do}
 
 -- ---- the ranges of a node
 -- each split on the way to a node is proper
-grown-split : (case : CaseContents) (Obeys : List Interval → ℕ → ℕ → Type 0) (best : Option ℕ) (popped : ℤ) (states : List State) (nodes : List SearchNode) → IsGrown case Obeys best popped states nodes → (parent line at : ℕ) (left right : NodeId) (above : List Step)
-    → state_at states parent ≡ state.Split line at left right → IsWay states parent above → is_proper (ranges_at case.book.lines above) line at ≡ true
+grown-split : (case : CaseContents) (Obeys : RangesContents → ℕ → ℕ → Type 0) (best : Option ℕ) (popped : ℤ) (states : List State) (nodes : List SearchNode) → IsGrown case Obeys best popped states nodes → (parent line at : ℕ) (left right : NodeId) (above : List Step)
+    → state_at states parent ≡ state.Split line at left right → IsWay states parent above → is_proper (ranges_at case.book above) (part.Line line) at ≡ true
 grown-split case Obeys best popped states nodes grown parent line at left right above split way =
-    let own : IsNodeAt case Obeys best popped parent (ranges_at case.book.lines above) (node_of nodes parent) (state.Split line at left right) =
-    subst (IsNodeAt case Obeys best popped parent (ranges_at case.book.lines above) (node_of nodes parent)) split (grown.each parent above (split-there states parent line at left right split) way) in
+    let own : IsNodeAt case Obeys best popped parent (ranges_at case.book above) (node_of nodes parent) (state.Split line at left right) =
+    subst (IsNodeAt case Obeys best popped parent (ranges_at case.book above) (node_of nodes parent)) split (grown.each parent above (split-there states parent line at left right split) way) in
     own.stands.0.proper
 
-pub grown-proper : (case : CaseContents) (Obeys : List Interval → ℕ → ℕ → Type 0) (best : Option ℕ) (popped : ℤ) (states : List State) (nodes : List SearchNode) → IsGrown case Obeys best popped states nodes → (number : ℕ) (way : List Step) → IsWay states number way
-    → AreProper case.book.lines way
+pub grown-proper : (case : CaseContents) (Obeys : RangesContents → ℕ → ℕ → Type 0) (best : Option ℕ) (popped : ℤ) (states : List State) (nodes : List SearchNode) → IsGrown case Obeys best popped states nodes → (number : ℕ) (way : List Step) → IsWay states number way
+    → AreProper case.book way
 grown-proper case Obeys best popped states nodes grown number [] way = tt
 grown-proper case Obeys best popped states nodes grown number (step ∷ above) way = (
   grown-proper case Obeys best popped states nodes grown way.0 above way.2,
   grown-split case Obeys best popped states nodes grown way.0 step.line step.at way.1.left way.1.right above way.1.split way.2,
 )
 
-pub popped-way : (case : CaseContents) (Obeys : List Interval → ℕ → ℕ → Type 0) (best : Option ℕ) (states : List State) (nodes : List SearchNode) (number : ℕ) → IsOneTree states → IsPopped case Obeys best states nodes number
-    → (way : List Step) × IsWay states number way × AreProper case.book.lines way
+pub popped-way : (case : CaseContents) (Obeys : RangesContents → ℕ → ℕ → Type 0) (best : Option ℕ) (states : List State) (nodes : List SearchNode) (number : ℕ) → IsOneTree states → IsPopped case Obeys best states nodes number
+    → (way : List Step) × IsWay states number way × AreProper case.book way
 popped-way case Obeys best states nodes number one popped =
     let way = some-way states number one popped.held.there in
     (way.0, way.1, grown-proper case Obeys best (node_of nodes number).priced.bound states nodes popped.grown number way.0 way.1)
 
 -- the ranges at hand are those of the node in hand
-pub held-at : (case : CaseContents) (Obeys : List Interval → ℕ → ℕ → Type 0) (best : Option ℕ) (states : List State) (nodes : List SearchNode) (number : ℕ) (ranges : List Interval) → IsPopped case Obeys best states nodes number
-    → ((way : List Step) → IsWay states number way → AreProper case.book.lines way → ranges ≡ ranges_at case.book.lines way) → IsHeld case Obeys best states nodes number ranges
+pub held-at : (case : CaseContents) (Obeys : RangesContents → ℕ → ℕ → Type 0) (best : Option ℕ) (states : List State) (nodes : List SearchNode) (number : ℕ) (ranges : RangesContents) → IsPopped case Obeys best states nodes number
+    → ((way : List Step) → IsWay states number way → AreProper case.book way → ranges ≡ ranges_at case.book way) → IsHeld case Obeys best states nodes number ranges
 held-at case Obeys best states nodes number ranges popped value = record {
   popped = popped;
   ranged = λ way is. value way is (grown-proper case Obeys best (node_of nodes number).priced.bound states nodes popped.grown number way is);
 }
 
-pub held-priced : (case : CaseContents) (Obeys : List Interval → ℕ → ℕ → Type 0) (best : Option ℕ) (states : List State) (nodes : List SearchNode) (number : ℕ) (ranges : List Interval) → IsOneTree states → IsHeld case Obeys best states nodes number ranges
+pub held-priced : (case : CaseContents) (Obeys : RangesContents → ℕ → ℕ → Type 0) (best : Option ℕ) (states : List State) (nodes : List SearchNode) (number : ℕ) (ranges : RangesContents) → IsOneTree states → IsHeld case Obeys best states nodes number ranges
     → IsPriced case ranges (node_of nodes number).priced
 held-priced case Obeys best states nodes number ranges one held =
     let way = some-way states number one held.popped.held.there in
-    subst (λ (r : List Interval). IsPriced case r (node_of nodes number).priced) (sym (held.ranged way.0 way.1)) (held.popped.grown.each number way.0 held.popped.held.there way.1).priced
+    subst (λ (r : RangesContents). IsPriced case r (node_of nodes number).priced) (sym (held.ranged way.0 way.1)) (held.popped.grown.each number way.0 held.popped.held.there way.1).priced
 
 -- a cheaper best plan leaves the node in hand
-pub held-cheaper : (case : CaseContents) (Obeys : List Interval → ℕ → ℕ → Type 0) (best after : Option ℕ) (states : List State) (nodes : List SearchNode) (number : ℕ) (ranges : List Interval) → IsNoDearer best after → IsHeld case Obeys best states nodes number ranges
+pub held-cheaper : (case : CaseContents) (Obeys : RangesContents → ℕ → ℕ → Type 0) (best after : Option ℕ) (states : List State) (nodes : List SearchNode) (number : ℕ) (ranges : RangesContents) → IsNoDearer best after → IsHeld case Obeys best states nodes number ranges
     → IsHeld case Obeys after states nodes number ranges
 held-cheaper case Obeys best after states nodes number ranges no_dearer held = record {
   popped = record {
@@ -95,7 +95,7 @@ held-cheaper case Obeys best after states nodes number ranges no_dearer held = r
 }
 
 -- ---- a node is taken, closed, split, or put back
-pub popped-next : (case : CaseContents) (Obeys : List Interval → ℕ → ℕ → Type 0) (best : Option ℕ) (states : List State) (nodes : List SearchNode) (number : ℕ) → IsOneTree states → HasGrown case Obeys best states nodes → IsLeast states number → IsInHand (with_state states number state.InHand) number
+pub popped-next : (case : CaseContents) (Obeys : RangesContents → ℕ → ℕ → Type 0) (best : Option ℕ) (states : List State) (nodes : List SearchNode) (number : ℕ) → IsOneTree states → HasGrown case Obeys best states nodes → IsLeast states number → IsInHand (with_state states number state.InHand) number
     → IsPopped case Obeys best (with_state states number state.InHand) nodes number
 popped-next case Obeys best states nodes number one grown least taken =
     let there : number < length states = omega (arith, taken.there, length-set states number state.InHand) in
@@ -103,21 +103,21 @@ popped-next case Obeys best states nodes number one grown least taken =
     popped-kept case Obeys best grown.0 states nodes number way.0 grown.1 there way.1 least
 
 -- a node that is tried is closed, unless it stays open
-tried-closed : (case : CaseContents) (best : Option ℕ) (ranges : List Interval) (bound : ℤ) (how : Closing) → (how ≡ closing.Open → ⊥) → IsTried case best ranges bound how → IsClosedBy case best ranges bound how
+tried-closed : (case : CaseContents) (best : Option ℕ) (ranges : RangesContents) (bound : ℤ) (how : Closing) → (how ≡ closing.Open → ⊥) → IsTried case best ranges bound how → IsClosedBy case best ranges bound how
 tried-closed case best ranges bound closing.Open closed tried = absurd (closed refl)
 tried-closed case best ranges bound closing.Borne closed tried = tried
 tried-closed case best ranges bound (closing.Unreached day) closed tried = tried
 tried-closed case best ranges bound (closing.Infeasible leaf) closed tried = tried
 tried-closed case best ranges bound closing.Point closed tried = tried
 
-pub closed-next : (case : CaseContents) (Obeys : List Interval → ℕ → ℕ → Type 0) (best : Option ℕ) (tree : TreeContents) (number : ℕ) (ranges : List Interval) (how : Closing) → IsHeld case Obeys best tree.pool.states tree.nodes number ranges → (how ≡ closing.Open → ⊥)
+pub closed-next : (case : CaseContents) (Obeys : RangesContents → ℕ → ℕ → Type 0) (best : Option ℕ) (tree : TreeContents) (number : ℕ) (ranges : RangesContents) (how : Closing) → IsHeld case Obeys best tree.pool.states tree.nodes number ranges → (how ≡ closing.Open → ⊥)
     → IsTried case best ranges (node_of tree.nodes number).priced.bound how → HasGrown case Obeys best (closed_tree tree number how).pool.states (closed_tree tree number how).nodes
 closed-next case Obeys best tree number ranges how held closed tried =
     closed-kept case Obeys best tree.pool.states tree.nodes number ranges how held (tried-closed case best ranges (node_of tree.nodes number).priced.bound how closed tried)
 
 -- an open node is split by the rule: where that is the halving tree's, it is one that the halving tree splits there
-pub rule-obeyed : (case : CaseContents) (rule : SplitRule) (best : Option ℕ) (ranges : List Interval) (priced : Priced) (line at : ℕ) → CoversBackward case best → IsPriced case ranges priced → GoesOn case best ranges priced.bound
-    → (rule ≡ rules.Halving → IsHalved case.book.lines ranges line at) → obeys case rule ranges line at
+pub rule-obeyed : (case : CaseContents) (rule : SplitRule) (best : Option ℕ) (ranges : RangesContents) (priced : Priced) (line at : ℕ) → CoversBackward case best → IsPriced case ranges priced → GoesOn case best ranges priced.bound
+    → (rule ≡ rules.Halving → IsHalved case.book.lines ranges.lines line at) → obeys case rule ranges line at
 rule-obeyed case rules.Halving best ranges priced line at covers is open_node halved = record {
   goes_on = goes-on case best ranges priced.bound covers (omega (arith, ints, is.improved.given, is.bound)) open_node;
   halved = halved refl;
@@ -125,22 +125,22 @@ rule-obeyed case rules.Halving best ranges priced line at covers is open_node ha
 rule-obeyed case rules.Relaxation best ranges priced line at covers is open_node halved = tt
 
 -- a side's leaf shows no lower least cost than its parent's
-side-above : (case : CaseContents) (ranges : List Interval) (line at : ℕ) (right : Bool) (own side : Priced) → (bound_of (case.limit - 1) case.book ranges own.leaf ≤ℤ bound_of (case.limit - 1) case.book (narrowed case.book.lines ranges line at right) own.leaf)
+side-above : (case : CaseContents) (ranges : RangesContents) (line at : ℕ) (right : Bool) (own side : Priced) → (bound_of (case.limit - 1) case.book ranges own.leaf ≤ℤ bound_of (case.limit - 1) case.book (narrowed case.book ranges (part.Line line) at right) own.leaf)
     → IsPriced case ranges own → IsSide case ranges line at right own.leaf side → own.bound ≤ℤ side.bound
 side-above case ranges line at right own side rises priced is =
-    let shown = cost-rises own.leaf.rho (bound_of (case.limit - 1) case.book ranges own.leaf) (bound_of (case.limit - 1) case.book (narrowed case.book.lines ranges line at right) own.leaf) rises in
+    let shown = cost-rises own.leaf.rho (bound_of (case.limit - 1) case.book ranges own.leaf) (bound_of (case.limit - 1) case.book (narrowed case.book ranges (part.Line line) at right) own.leaf) rises in
     let no_less = is.no_less (omega (arith, priced.weighs)) in
     omega (arith, ints, shown, priced.bound, no_less)
 
-pub split-next : (case : CaseContents) (Obeys : List Interval → ℕ → ℕ → Type 0) (best : Option ℕ) (tree : TreeContents) (number line at : ℕ) (ranges : List Interval) (left right : Priced) → IsBook case.book → AreTight case.book.lines ranges → IsOneTree tree.pool.states
-    → SplitsAreWhole tree.pool.states → IsHeld case Obeys best tree.pool.states tree.nodes number ranges → is_proper ranges line at ≡ true → line < length case.book.lines → Obeys ranges line at
+pub split-next : (case : CaseContents) (Obeys : RangesContents → ℕ → ℕ → Type 0) (best : Option ℕ) (tree : TreeContents) (number line at : ℕ) (ranges : RangesContents) (left right : Priced) → IsBook case.book → AreTight case.book ranges → IsOneTree tree.pool.states
+    → SplitsAreWhole tree.pool.states → IsHeld case Obeys best tree.pool.states tree.nodes number ranges → is_proper ranges (part.Line line) at ≡ true → line < length case.book.lines → Obeys ranges line at
     → IsSide case ranges line at false (node_of tree.nodes number).priced.leaf left → IsSide case ranges line at true (node_of tree.nodes number).priced.leaf right
     → HasGrown case Obeys best (split_tree tree number line at left right).pool.states (split_tree tree number line at left right).nodes
 split-next case Obeys best tree number line at ranges left right limits tight one whole held proper few obeys left_is right_is =
     split-kept case Obeys best tree.pool.states tree.nodes number line at ranges left right held whole
     (record { proper = proper; few = few; low = omega (arith, ints); obeys = obeys })
-    left_is.own (side-above case ranges line at false own left (bound-rises (case.limit - 1) case.book own.leaf ranges line at false limits tight proper) priced left_is)
-    right_is.own (side-above case ranges line at true own right (bound-rises (case.limit - 1) case.book own.leaf ranges line at true limits tight proper) priced right_is)
+    left_is.own (side-above case ranges line at false own left (bound-rises (case.limit - 1) case.book own.leaf ranges (part.Line line) at false limits tight proper) priced left_is)
+    right_is.own (side-above case ranges line at true own right (bound-rises (case.limit - 1) case.book own.leaf ranges (part.Line line) at true limits tight proper) priced right_is)
   where
     own : Priced
     own = (node_of tree.nodes number).priced
@@ -148,7 +148,7 @@ split-next case Obeys best tree number line at ranges left right limits tight on
     priced : IsPriced case ranges own
     priced = held-priced case Obeys best tree.pool.states tree.nodes number ranges one held
 
-pub stuck-next : (case : CaseContents) (Obeys : List Interval → ℕ → ℕ → Type 0) (best : Option ℕ) (tree : TreeContents) (number line at : ℕ) (ranges : List Interval) → IsOneTree tree.pool.states → IsHeld case Obeys best tree.pool.states tree.nodes number ranges
+pub stuck-next : (case : CaseContents) (Obeys : RangesContents → ℕ → ℕ → Type 0) (best : Option ℕ) (tree : TreeContents) (number line at : ℕ) (ranges : RangesContents) → IsOneTree tree.pool.states → IsHeld case Obeys best tree.pool.states tree.nodes number ranges
     → GoesOn case best ranges (node_of tree.nodes number).priced.bound → Obeys ranges line at → case.budget < length tree.pool.states + 2
     → IsFullTree case Obeys best (node_of tree.nodes number).priced.bound (waiting_tree tree number)
 stuck-next case Obeys best tree number line at ranges one held goes_on obeys full =
@@ -205,12 +205,12 @@ cost-small (suc less) (negsuc above) weighs small = farther (suc above / suc les
     farther n le = omega (arith, ints, le)
 
 -- no leaf that weighs the cost by a hundredth at least shows a least cost that is too great
-pub shown-small : (n : ℕ) (book : BookContents) (ranges : List Interval) (leaf : Leaf) → IsBook book → AreTight book.lines ranges → IsLeaf (length book.needs) leaf → LEAST_WEIGHT ≤ leaf.rho
+pub shown-small : (n : ℕ) (book : BookContents) (ranges : RangesContents) (leaf : Leaf) → IsBook book → AreTight book ranges → IsLeaf (length book.needs) leaf → LEAST_WEIGHT ≤ leaf.rho
     → unsigned_abs (least_cost_of n book ranges leaf) < 10 ^ 28
 shown-small n book ranges leaf limits tight well weighs =
-    cost-small leaf.rho (bound_of n book ranges leaf) weighs (bound-small n book ranges leaf limits well (tight-room book.lines ranges tight) (tight-ordered book.lines ranges tight))
+    cost-small leaf.rho (bound_of n book ranges leaf) weighs (bound-small n book ranges leaf limits well (tight-of book ranges tight) (tight-ordered book.lines ranges.lines tight.lines) tight.ordered)
 
-pub bounds-small : (case : CaseContents) (Obeys : List Interval → ℕ → ℕ → Type 0) (best : Option ℕ) (popped : ℤ) (states : List State) (nodes : List SearchNode) → IsBook case.book → IsOneTree states → IsGrown case Obeys best popped states nodes
+pub bounds-small : (case : CaseContents) (Obeys : RangesContents → ℕ → ℕ → Type 0) (best : Option ℕ) (popped : ℤ) (states : List State) (nodes : List SearchNode) → IsBook case.book → IsOneTree states → IsGrown case Obeys best popped states nodes
     → All (λ (own : SearchNode). unsigned_abs own.priced.bound < 10 ^ 28) nodes
 bounds-small case Obeys best popped states nodes limits one grown = All-from_get_or (λ (own : SearchNode). unsigned_abs own.priced.bound < 10 ^ 28) nodes no_node by-number
   where
@@ -219,8 +219,8 @@ bounds-small case Obeys best popped states nodes limits one grown = All-from_get
         let inside : number < length states = omega (arith, few, grown.same) in
         let way = some-way states number one inside in
         let own = (grown.each number way.0 inside way.1).priced in
-        let tight = ways-tight sides_are_tight case.book.lines (root_is_tight case.book limits) way.0 (grown-proper case Obeys best popped states nodes grown number way.0 way.1) in
-        let ranges = ranges_at case.book.lines way.0 in
+        let tight = ways-tight sides_are_tight case.book (root_is_tight case.book limits) way.0 (grown-proper case Obeys best popped states nodes grown number way.0 way.1) in
+        let ranges = ranges_at case.book way.0 in
         subst (λ (b : ℤ). unsigned_abs b < 10 ^ 28) (sym own.bound)
         (shown-small (case.limit - 1) case.book ranges (node_of nodes number).priced.leaf limits tight own.improved.well_formed own.weighs)
 
@@ -231,11 +231,11 @@ closed-there states number leaf closed = elim (cases_lt number (length states)) 
   | inr past ↦ absurd (let clash : state.InHand ≡ state.Closed leaf = sym (get_or_past states number state.InHand past) ∙ closed in cc)
 ]
 
-pub own-numbers : (case : CaseContents) (Obeys : List Interval → ℕ → ℕ → Type 0) (best : Option ℕ) (popped : ℤ) (states : List State) (nodes : List SearchNode) → IsOneTree states → IsGrown case Obeys best popped states nodes → HaveOwnNumbers states
+pub own-numbers : (case : CaseContents) (Obeys : RangesContents → ℕ → ℕ → Type 0) (best : Option ℕ) (popped : ℤ) (states : List State) (nodes : List SearchNode) → IsOneTree states → IsGrown case Obeys best popped states nodes → HaveOwnNumbers states
 own-numbers case Obeys best popped states nodes one grown number leaf closed =
     let inside = closed-there states number leaf closed in
     let way = some-way states number one inside in
-    (subst (IsAt case Obeys best popped number (ranges_at case.book.lines way.0) (node_of nodes number)) closed (grown.each number way.0 inside way.1).stands).0
+    (subst (IsAt case Obeys best popped number (ranges_at case.book way.0) (node_of nodes number)) closed (grown.each number way.0 inside way.1).stands).0
 
 -- once the nodes that wait are closed, every node is ended, and closed by its own number
 drained-one : (number : ℕ) (s : State) (own : SearchNode) (t : State) (after : SearchNode) → (s ≡ state.InHand → ⊥) → IsDrainedNode number s own t after → IsEnded t

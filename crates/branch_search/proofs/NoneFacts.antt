@@ -12,12 +12,11 @@ use Rattle.cash_table.proofs.PointFacts.{beyond_no_rival}
 use Rattle.cash_table.specs.Points.{is_within_limit}
 use Rattle.cash_table.specs.Reach.{IsInReach}
 use Rattle.dual_bound.specs.LeafBound.{bound_of}
-use Rattle.node_ranges.specs.Ranges.{is_single, root_of}
+use Rattle.node_ranges.specs.Ranges.{RangesContents, is_single, root_of}
 use Rattle.node_ranges.proofs.CostFacts.{cost-bears}
 use Rattle.node_ranges.specs.Claims.{Claim, bears_out, bears_out_by, least_cost, placed_nodes}
 use Rattle.proof_tree.specs.Tree.{AreTrees}
 use Rattle.proof_tree.specs.declared.prices.TheConstants.{PRICE_SCALE}
-use Rattle.proof_tree.specs.declared.interval.Interval.{Interval}
 use Rattle.proof_tree.specs.declared.tree.Leaf.{Leaf}
 use Rattle.proof_tree.specs.declared.tree.TreeNode.{TreeNode}
 use Rattle.escrow_units.specs.declared.limits.TheConstants.{GREATEST_YIELD}
@@ -47,7 +46,7 @@ use Rattle.search_tree.specs.declared.node.Closing.TheVariants as closing
 use Rattle.search_tree.specs.declared.node.SearchNode.{SearchNode}
 
 -- ---- without a best plan
-no-plan : (case : CaseContents) (ranges : List Interval) (own : SearchNode) → ClosedFor case None ranges own → IsNoPlan case (end_node case.book.needs own, ranges)
+no-plan : (case : CaseContents) (ranges : RangesContents) (own : SearchNode) → ClosedFor case None ranges own → IsNoPlan case (end_node case.book.needs own, ranges)
 no-plan case ranges own closed = by own.closing closed
   where
     by : (how : Closing) → IsClosedBy case None ranges own.priced.bound how → IsNoPlan case (end_by case.book.needs own.priced.leaf how, ranges)
@@ -66,7 +65,7 @@ none-is case rule popped tree nodes is reach small few beyond = record {
   few = omega (arith, few, shows.count);
   beyond = beyond;
   points = subst (λ (ns : List TreeNode). All (IsNoPlan case) (placed_nodes case.book ns)) (sym made.nodes_are)
-      (all-placed case.book.lines (IsNoPlan case) (ends_of case tree) shape (root_of case.book.lines) (ends-end case tree)
+      (all-placed case.book (IsNoPlan case) (ends_of case tree) shape (root_of case.book) (ends-end case tree)
       (all-at case (obeys case rule) popped (ClosedFor case None) (IsNoPlan case) tree shape (closed-tree case (obeys case rule) None tree popped is.one is.whole is.ended is.kept) made.shape_is (λ number ranges line at priced split tight. tt)
       (λ number ranges priced closed tight. no-plan case ranges (node_of tree.nodes number) closed) is.limits));
 }
@@ -101,16 +100,16 @@ plain-within case book from to p = by (is_within_limit case.limit case.book p.pl
     by false beyond = absurd (beyond_no_rival case.limit case.book p.plain.plan book from to beyond p.plain.rival)
 
 -- at the root the base leaf bears the backward plan out
-plain-borne : (case : CaseContents) → IsBook case.book → 1 ≤ case.limit → case.limit ≤ GREATEST_YIELD → IsPlainWithin case → is_borne_out case (root_of case.book.lines) ≡ true
+plain-borne : (case : CaseContents) → IsBook case.book → 1 ≤ case.limit → case.limit ≤ GREATEST_YIELD → IsPlainWithin case → is_borne_out case (root_of case.book) ≡ true
 plain-borne case book from to p =
     ap (λ (claim : Claim). bears_out (least_cost PRICE_SCALE base) claim) (ap (claim_within case) p.plain.built ∙ ap (λ (b : Bool). claim-if b) (plain-within case book from to p))
     ∙ cost-bears PRICE_SCALE base (claim-if true) (omega arith)
     ∙ bears-more base (cost case.book p.plain.plan) (plain_gap case.book) case.allowance p.allowed
-    (subst (λ (leaf : Leaf). (pos (COEFFICIENT_SCALE * PRICE_SCALE) *ℤ (pos (cost case.book p.plain.plan) -ℤ pos (plain_gap case.book) -ℤ pos 1)) <ℤ bound_of (case.limit - 1) case.book (root_of case.book.lines) leaf)
+    (subst (λ (leaf : Leaf). (pos (COEFFICIENT_SCALE * PRICE_SCALE) *ℤ (pos (cost case.book p.plain.plan) -ℤ pos (plain_gap case.book) -ℤ pos 1)) <ℤ bound_of (case.limit - 1) case.book (root_of case.book) leaf)
     base-is (plain_gap_holds case.limit case.book book p.plain))
   where
     base : ℤ
-    base = bound_of (case.limit - 1) case.book (root_of case.book.lines) (base_leaf case.book)
+    base = bound_of (case.limit - 1) case.book (root_of case.book) (base_leaf case.book)
 
     base-is : leaf_of_prices p.plain.prices ≡ base_leaf case.book
     base-is = sym (ap (λ found. leaf_of_prices (unwrap_or found (replicate (length case.book.needs) 0))) p.plain.curve)
@@ -119,11 +118,11 @@ plain-borne case book from to p =
     claim-if b = if b then Some (pos (cost case.book p.plain.plan) -ℤ pos case.allowance) else None
 
 -- so its halving tree is its root alone
-plain-alone : (case : CaseContents) → IsBook case.book → 1 ≤ case.limit → case.limit ≤ GREATEST_YIELD → IsPlainWithin case → (part : Splits) → IsUpperPart case (root_of case.book.lines) part → node_count part ≡ 1
+plain-alone : (case : CaseContents) → IsBook case.book → 1 ≤ case.limit → case.limit ≤ GREATEST_YIELD → IsPlainWithin case → (part : Splits) → IsUpperPart case (root_of case.book) part → node_count part ≡ 1
 plain-alone case book from to p End upper = refl
 plain-alone case book from to p (Halved line at left right) upper = absurd (
     let borne = plain-borne case book from to p in
-    let «end» : is_end case (root_of case.book.lines) ≡ true = ended (is_single (root_of case.book.lines)) (is_borne_out case (root_of case.book.lines)) (is_unreached case (root_of case.book.lines)) borne in
+    let «end» : is_end case (root_of case.book) ≡ true = ended (is_single (root_of case.book)) (is_borne_out case (root_of case.book)) (is_unreached case (root_of case.book)) borne in
     let clash : true ≡ false = sym «end» ∙ upper.0 in cc)
   where
     ended : (a b c : Bool) → b ≡ true → (a || (b || c)) ≡ true

@@ -1,10 +1,11 @@
 -- What a search finds at the node in hand, and how the best plan goes on.
 use Rattle.std.proofs.Common.{◌≡◌, ◌∙◌, inl, inr, ℕ, zero, suc, ◌-◌, ◌<◌, ◌≤◌, ◌==◌, ℤ, pos, ◌≤ℤ◌, ◌<ℤ◌, Bool, true, false, ◌&&◌, ◌||◌, List, [], ◌∷◌, length, set, get_or, refl, sym, ap, subst, arith, Option, Some, None, Result, Ok, Err}
+use Rattle.std.specs.List.{AllZip}
 use Rattle.std.specs.Prelude.{IfOk, MatchOption, OnOk, int_le, int_lt, option_map}
 use Rattle.std.proofs.lemmas.Bool.{cases_lt}
 use Rattle.std.proofs.lemmas.Bool.Decides.{nat_tests}
 use Rattle.std.proofs.lemmas.Int.{ints}
-use Rattle.std.proofs.lemmas.List.{get_or_default}
+use Rattle.std.proofs.lemmas.List.{get_or_default, length-map}
 use Rattle.case_file.specs.Case.{CaseContents}
 use Rattle.cash_table.specs.First.{first_short_of}
 use Rattle.cash_table.proofs.DayFacts.{first_short_is}
@@ -13,14 +14,15 @@ use Rattle.cash_table.specs.Points.{IsExcluded, is_excluded, is_within_limit}
 use Rattle.day_sums.specs.Summed.{total_by}
 use Rattle.dual_bound.specs.LeafBound.{bound_of, least_cost_of}
 use Rattle.node_ranges.proofs.CostFacts.{cost-some}
-use Rattle.node_ranges.proofs.RangeFacts.{narrowed-set, tight-length}
-use Rattle.node_ranges.specs.Ranges.{AreTight, is_single, narrowed, side_of}
+use Rattle.node_ranges.proofs.RangeFacts.{narrowed-set, root-of, sums-count, tight-length, tight-of}
+use Rattle.node_ranges.specs.Ranges.{AreTight, IsTight, RangesContents, is_single, narrowed, narrowed_lines, root_of, side_of, tightened, whole_interval, with_interval}
 use Rattle.node_ranges.specs.Claims.{costs_enough, low_ends}
 use Rattle.price_lp.specs.declared.proposing.TheConstants.{LEAST_WEIGHT}
 use Rattle.proof_tree.specs.declared.prices.TheConstants.{PRICE_SCALE}
 use Rattle.proof_tree.specs.Tree.{IsLeaf}
 use Rattle.proof_tree.specs.declared.interval.Interval.{Interval}
 use Rattle.proof_tree.specs.declared.tree.Leaf.{Leaf}
+use Rattle.proof_tree.specs.declared.tree.Part.TheVariants as part
 use Rattle.dual_tune.specs.Steps.{IsImproved, ShowsNoGreater, zeros_like}
 use Rattle.dual_tune.specs.Tuner.{TunerContents}
 use Rattle.halving_tree.specs.Base.{base_leaf, reach_leaf}
@@ -37,28 +39,28 @@ use Rattle.branch_search.specs.Parts.{IsCounted}
 use Rattle.branch_search.specs.Search.{IsNoDearerThanBackward}
 
 -- ---- what a node's leaf is
-tuned-improved : (case : CaseContents) (tuner : TunerContents) (base leaf : Leaf) (ranges : List Interval) → tuner ≡ record { book = case.book; yield_units = case.limit - 1 } → base ≡ base_leaf case.book
+tuned-improved : (case : CaseContents) (tuner : TunerContents) (base leaf : Leaf) (ranges : RangesContents) → tuner ≡ record { book = case.book; yield_units = case.limit - 1 } → base ≡ base_leaf case.book
     → IsImproved tuner.yield_units tuner.book ranges base leaf → IsImproved (case.limit - 1) case.book ranges (base_leaf case.book) leaf
 tuned-improved case tuner base leaf ranges tuned based improved =
     subst (λ (b : Leaf). IsImproved (case.limit - 1) case.book ranges b leaf) based
     (subst (λ (t : TunerContents). IsImproved t.yield_units t.book ranges base leaf) tuned improved)
 
-tuned-zeros : (case : CaseContents) (tuner : TunerContents) (base leaf : Leaf) (ranges : List Interval) → tuner ≡ record { book = case.book; yield_units = case.limit - 1 } → base ≡ base_leaf case.book
+tuned-zeros : (case : CaseContents) (tuner : TunerContents) (base leaf : Leaf) (ranges : RangesContents) → tuner ≡ record { book = case.book; yield_units = case.limit - 1 } → base ≡ base_leaf case.book
     → ShowsNoGreater tuner.yield_units tuner.book ranges (zeros_like tuner.book base) leaf → ShowsNoGreater (case.limit - 1) case.book ranges (zeros_like case.book (base_leaf case.book)) leaf
 tuned-zeros case tuner base leaf ranges tuned based zeros =
     subst (λ (b : Leaf). ShowsNoGreater (case.limit - 1) case.book ranges (zeros_like case.book b) leaf) based
     (subst (λ (t : TunerContents). ShowsNoGreater t.yield_units t.book ranges (zeros_like t.book base) leaf) tuned zeros)
 
-pub tuned-bound : (case : CaseContents) (tuner : TunerContents) (leaf : Leaf) (ranges : List Interval) → tuner ≡ record { book = case.book; yield_units = case.limit - 1 }
+pub tuned-bound : (case : CaseContents) (tuner : TunerContents) (leaf : Leaf) (ranges : RangesContents) → tuner ≡ record { book = case.book; yield_units = case.limit - 1 }
     → bound_of tuner.yield_units tuner.book ranges leaf ≡ bound_of (case.limit - 1) case.book ranges leaf
 tuned-bound case tuner leaf ranges tuned = ap (λ (t : TunerContents). bound_of t.yield_units t.book ranges leaf) tuned
 
-tuned-shown : (case : CaseContents) (tuner : TunerContents) (leaf : Leaf) (ranges : List Interval) → tuner ≡ record { book = case.book; yield_units = case.limit - 1 }
+tuned-shown : (case : CaseContents) (tuner : TunerContents) (leaf : Leaf) (ranges : RangesContents) → tuner ≡ record { book = case.book; yield_units = case.limit - 1 }
     → least_cost_of tuner.yield_units tuner.book ranges leaf ≡ least_cost_of (case.limit - 1) case.book ranges leaf
 tuned-shown case tuner leaf ranges tuned = ap (λ (t : TunerContents). least_cost_of t.yield_units t.book ranges leaf) tuned
 
-pub priced-is : (case : CaseContents) (tuner : TunerContents) (base leaf : Leaf) (ranges : List Interval) (bound : ℤ) → tuner ≡ record { book = case.book; yield_units = case.limit - 1 } → base ≡ base_leaf case.book
-    → IsBook case.book → AreTight case.book.lines ranges → IsImproved tuner.yield_units tuner.book ranges base leaf → ShowsNoGreater tuner.yield_units tuner.book ranges (zeros_like tuner.book base) leaf
+pub priced-is : (case : CaseContents) (tuner : TunerContents) (base leaf : Leaf) (ranges : RangesContents) (bound : ℤ) → tuner ≡ record { book = case.book; yield_units = case.limit - 1 } → base ≡ base_leaf case.book
+    → IsBook case.book → AreTight case.book ranges → IsImproved tuner.yield_units tuner.book ranges base leaf → ShowsNoGreater tuner.yield_units tuner.book ranges (zeros_like tuner.book base) leaf
     → LEAST_WEIGHT ≤ leaf.rho → bound ≡ least_cost_of tuner.yield_units tuner.book ranges leaf → IsPriced case ranges (record { leaf = leaf; bound = bound })
 priced-is case tuner base leaf ranges bound tuned based limits tight improved zeros weighs is = record {
   improved = own;
@@ -75,7 +77,7 @@ priced-is case tuner base leaf ranges bound tuned based limits tight improved ze
     own = tuned-improved case tuner base leaf ranges tuned based improved
 
 -- a leaf that doesn't weigh the cost, and whose bound is above 0, shows that there is no portfolio
-pub shows-none : (case : CaseContents) (tuner : TunerContents) (leaf : Leaf) (ranges : List Interval) (bound : ℤ) → tuner ≡ record { book = case.book; yield_units = case.limit - 1 }
+pub shows-none : (case : CaseContents) (tuner : TunerContents) (leaf : Leaf) (ranges : RangesContents) (bound : ℤ) → tuner ≡ record { book = case.book; yield_units = case.limit - 1 }
     → IsLeaf (length tuner.book.needs) leaf → leaf.rho ≡ 0 → bound ≡ bound_of tuner.yield_units tuner.book ranges leaf → pos 0 <ℤ bound → ShowsNone case ranges leaf
 shows-none case tuner leaf ranges bound tuned well_formed without_cost is above = record {
   well_formed = subst (λ (t : TunerContents). IsLeaf (length t.book.needs) leaf) tuned well_formed;
@@ -88,7 +90,7 @@ weighs-some : (rho : ℕ) → 1 ≤ rho → (rho == 0) ≡ false
 weighs-some rho some = grind (arith, nat_tests)
 
 -- the parent's leaf shows no more
-pub parent-no_more : (case : CaseContents) (tuner : TunerContents) (base parent leaf : Leaf) (ranges : List Interval) (bound : ℤ) → tuner ≡ record { book = case.book; yield_units = case.limit - 1 } → base ≡ base_leaf case.book
+pub parent-no_more : (case : CaseContents) (tuner : TunerContents) (base parent leaf : Leaf) (ranges : RangesContents) (bound : ℤ) → tuner ≡ record { book = case.book; yield_units = case.limit - 1 } → base ≡ base_leaf case.book
     → IsImproved tuner.yield_units tuner.book ranges base leaf → ShowsNoGreater tuner.yield_units tuner.book ranges parent leaf → bound ≡ least_cost_of tuner.yield_units tuner.book ranges leaf
     → 1 ≤ parent.rho → least_cost_of (case.limit - 1) case.book ranges parent ≤ℤ bound
 parent-no_more case tuner base parent leaf ranges bound tuned based improved start is some =
@@ -97,7 +99,7 @@ parent-no_more case tuner base parent leaf ranges bound tuned based improved sta
     omega (arith, ints, no_greater, is, tuned-shown case tuner parent ranges tuned)
 
 -- ---- whether the needs are reached
-pub reached-is : (case : CaseContents) (ranges : List Interval) (plan : List ℕ) (day : ℤ) → plan ≡ high_ends ranges → Some day ≡ first_short_of case.book plan
+pub reached-is : (case : CaseContents) (ranges : RangesContents) (plan : List ℕ) (day : ℤ) → plan ≡ high_ends ranges → Some day ≡ first_short_of case.book plan
     → bound_of (case.limit - 1) case.book ranges (reach_leaf case.book.needs day) ≤ℤ pos 0 → is_unreached case ranges ≡ false
 reached-is case ranges plan day is_high short no_more =
     ap (λ (p : List ℕ). is_short_by case ranges (first_short_of case.book p)) (sym is_high) ∙ ap (is_short_by case ranges) (sym short)
@@ -108,7 +110,7 @@ reached-is case ranges plan day is_high short no_more =
     not-above false above = refl
 
 -- where the high ends meet the needs, there is no day on which they are short
-pub met-reaches : (case : CaseContents) (ranges : List Interval) (plan : List ℕ) → IsBook case.book → plan ≡ high_ends ranges → Meets case.book plan → is_unreached case ranges ≡ false
+pub met-reaches : (case : CaseContents) (ranges : RangesContents) (plan : List ℕ) → IsBook case.book → plan ≡ high_ends ranges → Meets case.book plan → is_unreached case ranges ≡ false
 met-reaches case ranges plan limits is_high meets =
     ap (λ (p : List ℕ). is_short_by case ranges (first_short_of case.book p)) (sym is_high)
     ∙ ap (is_short_by case ranges) (by (first_short_of case.book plan) (first_short_is case.book plan limits.needs.rising))
@@ -119,7 +121,7 @@ met-reaches case ranges plan limits is_high meets =
 
 -- ---- a point
 -- a portfolio that doesn't count is excluded
-point-counts : (case : CaseContents) (ranges : List Interval) (best : Option ℕ) → (excluded enough : Bool) → (excluded ≡ false → enough ≡ true) → is_single ranges ≡ true → (is_single ranges && (excluded || enough)) ≡ true
+point-counts : (case : CaseContents) (ranges : RangesContents) (best : Option ℕ) → (excluded enough : Bool) → (excluded ≡ false → enough ≡ true) → is_single ranges ≡ true → (is_single ranges && (excluded || enough)) ≡ true
 point-counts case ranges best true enough more single = rw single refl
 point-counts case ranges best false enough more single = rw single (more refl)
 
@@ -149,7 +151,7 @@ enough-cost case plan (Some cents) most = by (int_le (pos cents) (pos (cost case
     by false is = absurd (omega (arith, ints, is, most))
 
 -- the one portfolio of single ranges is no rival, or the best plan costs no more
-pub point-lost : (case : CaseContents) (ranges : List Interval) (best : Option ℕ) → IsBook case.book → 1 ≤ case.limit → case.limit ≤ GREATEST_YIELD → is_single ranges ≡ true → IsCounted case (low_ends ranges) best
+pub point-lost : (case : CaseContents) (ranges : RangesContents) (best : Option ℕ) → IsBook case.book → 1 ≤ case.limit → case.limit ≤ GREATEST_YIELD → is_single ranges ≡ true → IsCounted case (low_ends ranges) best
     → IsLostPoint case best ranges
 point-lost case ranges best limits from to single counted = record {
   closed = point-counts case ranges best (is_excluded case.book (case.limit - 1) (low_ends ranges)) (costs_enough case.book (option_map pos best) (low_ends ranges))
@@ -198,24 +200,37 @@ at-most-cheaper (Some own) (Some less) cents cheaper most = omega (arith, cheape
 pub covers-cheaper : (case : CaseContents) (best after : Option ℕ) → IsNoDearer best after → CoversBackward case best → CoversBackward case after
 covers-cheaper case best after cheaper covers = λ built is within. at-most-cheaper best after (cost case.book built) cheaper (covers built is within)
 
+-- ---- the ranges of the root
+-- tight ranges have as many intervals
+pub as-many_lines : (book : BookContents) (root ranges : RangesContents) → root ≡ root_of book → AreTight book ranges → length ranges.lines ≡ length root.lines
+as-many_lines book root ranges is tight =
+    omega (arith, tight-length book.lines ranges.lines tight.lines, length-map book.lines whole_interval, ap (λ (r : RangesContents). length r.lines) is)
+
+pub as-many_sums : (book : BookContents) (root ranges : RangesContents) → root ≡ root_of book → AreTight book ranges → length ranges.sums ≡ length root.sums
+as-many_sums book root ranges is tight =
+    sums-count book ranges (tight-of book ranges tight) ∙ sym (sums-count book (root_of book) (root-of book)) ∙ sym (ap (λ (r : RangesContents). length r.sums) is)
+
 -- ---- ranges that are narrowed, and put back
-abbrev pub get_at : List Interval → ℕ → Interval
-get_at ranges line = get_or ranges line (record { low = 0; high = 0 })
+set-back : (ranges : List Interval) (line : ℕ) (own whole : Interval) → whole ≡ get_or ranges line whole → set (set ranges line own) line whole ≡ ranges
+set-back [] line own whole is = refl
+set-back (first ∷ ranges) zero own whole is = ap (λ (interval : Interval). interval ∷ ranges) is
+set-back (first ∷ ranges) (suc line) own whole is = ap (λ (rest : List Interval). first ∷ rest) (set-back ranges line own whole is)
 
-set-back : (ranges : List Interval) (line : ℕ) (own : Interval) → set (set ranges line own) line (get_at ranges line) ≡ ranges
-set-back [] line own = refl
-set-back (first ∷ ranges) zero own = refl
-set-back (first ∷ ranges) (suc line) own = ap (λ (rest : List Interval). first ∷ rest) (set-back ranges line own)
-
-pub restored : (lines : List Line) (ranges now back : List Interval) (line at : ℕ) (right : Bool) → AreTight lines ranges → line < length lines → now ≡ narrowed lines ranges line at right
-    → back ≡ set now line (get_at ranges line) → back ≡ ranges
-restored lines ranges now back line at right tight few narrow is =
+lines-restored : (lines : List Line) (ranges now : List Interval) (line at : ℕ) (right : Bool) (whole : Interval) → AllZip IsTight lines ranges → line < length lines → now ≡ narrowed_lines lines ranges line at right
+    → whole ≡ get_or ranges line whole → set now line whole ≡ ranges
+lines-restored lines ranges now line at right whole tight few narrow is =
     let same = tight-length lines ranges tight in
     let inside : line < length ranges = omega (arith, few, same) in
     let none : Line = cash_line 0 in
     let own : Line = get_or lines line none in
-    let side = narrowed-set lines ranges line at right own (get_at ranges line) inside same (get_or_default lines line none own few) (get_or_default ranges line (record { low = 0; high = 0 }) (get_at ranges line) inside) in
-    is ∙ ap (λ (r : List Interval). set r line (get_at ranges line)) (narrow ∙ sym side) ∙ set-back ranges line (side_of own (get_at ranges line) at right)
+    let side = narrowed-set lines ranges line at right own whole inside same (get_or_default lines line none own few) is in
+    ap (λ (r : List Interval). set r line whole) (narrow ∙ sym side) ∙ set-back ranges line (tightened own (side_of whole at right)) whole is
+
+pub restored : (book : BookContents) (ranges now back : RangesContents) (line at : ℕ) (right : Bool) (whole : Interval) → AreTight book ranges → line < length book.lines → now ≡ narrowed book ranges (part.Line line) at right
+    → whole ≡ get_or ranges.lines line whole → back ≡ with_interval now (part.Line line) whole → back ≡ ranges
+restored book ranges now back line at right whole tight few narrow whole_is is =
+    let lines = lines-restored book.lines ranges.lines now.lines line at right whole tight.lines few (ap (λ (r : RangesContents). r.lines) narrow) whole_is in
+    is ∙ (λ i. record { lines = lines i; sums = (narrow i).sums })
 
 -- ---- the node in hand
 -- what holds of a call's answer goes on to hold of what it is made to

@@ -7,9 +7,8 @@ use Rattle.std.proofs.lemmas.List.{get_or_past}
 use Rattle.case_file.specs.Case.{CaseContents}
 use Rattle.cash_table.specs.Points.{is_excluded}
 use Rattle.dual_bound.specs.Closing.{is_closed_point, is_weak}
-use Rattle.node_ranges.specs.Ranges.{is_single}
+use Rattle.node_ranges.specs.Ranges.{RangesContents, is_single}
 use Rattle.node_ranges.specs.Claims.{Claim, bears_out, costs_enough, low_ends, placed_nodes}
-use Rattle.proof_tree.specs.declared.interval.Interval.{Interval}
 use Rattle.proof_tree.specs.declared.tree.TreeNode.{TreeNode}
 use Rattle.escrow_check.specs.Acceptance.{claim_of}
 use Rattle.escrow_units.specs.declared.limits.TheConstants.{AMOUNT_LIMIT}
@@ -30,7 +29,7 @@ use Rattle.search_tree.specs.declared.node.Closing.TheVariants as closing
 use Rattle.search_tree.specs.declared.node.SearchNode.{SearchNode}
 
 -- ---- what is found
-point-more : (case : CaseContents) (cents gap : ℕ) (ranges : List Interval) → is_closed_point case (Some (pos cents)) ranges ≡ true → is_closed_point case (Some (pos cents -ℤ pos gap)) ranges ≡ true
+point-more : (case : CaseContents) (cents gap : ℕ) (ranges : RangesContents) → is_closed_point case (Some (pos cents)) ranges ≡ true → is_closed_point case (Some (pos cents -ℤ pos gap)) ranges ≡ true
 point-more case cents gap ranges is =
     both-more (is_single ranges) (is_excluded case.book (case.limit - 1) (low_ends ranges)) (costs_enough case.book (Some (pos cents)) (low_ends ranges)) (costs_enough case.book (Some (pos cents -ℤ pos gap)) (low_ends ranges))
     (λ enough. grind (arith, ints)) is

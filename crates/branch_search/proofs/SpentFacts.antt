@@ -9,11 +9,10 @@ use Rattle.cash_table.specs.Points.{is_excluded}
 use Rattle.cash_table.specs.Reach.{IsInReach}
 use Rattle.dual_bound.specs.LeafBound.{bound_of}
 use Rattle.dual_bound.specs.Closing.{is_weak}
-use Rattle.node_ranges.specs.Ranges.{is_single}
+use Rattle.node_ranges.specs.Ranges.{RangesContents, is_single}
 use Rattle.dual_bound.proofs.Signed.{scale-le}
 use Rattle.offer_book.specs.declared.coefficients.TheConstants.{COEFFICIENT_SCALE}
 use Rattle.node_ranges.specs.Claims.{Claim, bears_out_by, costs_enough, low_ends, placed_nodes}
-use Rattle.proof_tree.specs.declared.interval.Interval.{Interval}
 use Rattle.proof_tree.specs.declared.tree.TreeNode.{TreeNode}
 use Rattle.proof_tree.specs.declared.tree.TreeNode.TheVariants as node
 use Rattle.escrow_check.specs.Acceptance.{claim_of}
@@ -35,7 +34,7 @@ use Rattle.branch_search.specs.declared.growing.Shown.{Shown}
 use Rattle.branch_search.specs.Search.{CostsNoLess, IsFound, IsFoundBy, IsNoDearerThanBackward, IsOverBound, IsShown, IsSpent, OfBackward}
 
 -- ---- one tree
-halves : (case : CaseContents) (rule : SplitRule) → rule ≡ rules.Halving → (ranges : List Interval) (line at : ℕ) → obeys case rule ranges line at → IsHalvingSplit case ranges line at
+halves : (case : CaseContents) (rule : SplitRule) → rule ≡ rules.Halving → (ranges : RangesContents) (line at : ℕ) → obeys case rule ranges line at → IsHalvingSplit case ranges line at
 halves case rule is ranges line at own = subst (λ (r : SplitRule). obeys case r ranges line at) is own
 
 pub spent-run : (case : CaseContents) (rule : SplitRule) (best : Option ℕ) (bound : ℤ) (cents : ℕ) (before after : TreeContents) (nodes : List TreeNode) → IsFull case (obeys case rule) best bound before after → AreNodesOf case.book.needs after nodes
@@ -115,8 +114,8 @@ less-point true false own less up is = ap not (up (not-true own is))
 less-point false excluded own less up is = is
 
 -- a node that is closed for a claim is closed for one of less
-less-claimed : (case : CaseContents) (own less : ℤ) (p : TreeNode × List Interval) → less ≤ℤ own → is_weak case (Some own) p ≡ false → is_weak case (Some less) p ≡ false
-less-claimed case own less (node.Split line at, ranges) le closed = closed
+less-claimed : (case : CaseContents) (own less : ℤ) (p : TreeNode × RangesContents) → less ≤ℤ own → is_weak case (Some own) p ≡ false → is_weak case (Some less) p ≡ false
+less-claimed case own less (node.Split part at, ranges) le closed = closed
 less-claimed case own less (node.Closed leaf, ranges) le closed =
     less-leaf (leaf.rho == 0) (bears_out_by leaf.rho (bound_of (case.limit - 1) case.book ranges leaf) (Some own)) (bears_out_by leaf.rho (bound_of (case.limit - 1) case.book ranges leaf) (Some less)) (int_lt (pos 0) (bound_of (case.limit - 1) case.book ranges leaf))
     (less-borne leaf.rho (bound_of (case.limit - 1) case.book ranges leaf) own less le) closed

@@ -116,7 +116,7 @@ pub record IsShown (case : CaseContents) (tree : List TreeNode) (cents : ℕ) : 
   pub no_rival : (rival : List ℕ) → IsRival case.limit case.book rival → cents ≤ cost case.book rival
   pub raised : All (IsRaised case) (placed_nodes case.book tree)
   pub needed : All (IsNeededSplit case cents) (placed_nodes case.book tree)
-  pub root : AreStepsAtMost case cents (root_of case.book.lines)
+  pub root : AreStepsAtMost case cents (root_of case.book)
 
 -- what stands then: such a tree with its bound, and the best plan; and a greater budget is needed, as the halving tree has more nodes
 pub record IsSpent (case : CaseContents) (spent : Spent) : Type 0 where

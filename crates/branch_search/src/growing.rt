@@ -1,8 +1,9 @@
 //! How the trees of a search grow: in each run one grows from the root by one rule.
-ghost use Rattle.std.specs.Prelude.{◌≡◌, ◌≤◌, ◌<◌, ◌+◌, ◌-◌, ◌≤ℤ◌, ◌⊎◌, true, false, length, ℕ, None, IfOk, IfSome, IsTrue, OnOk};
+ghost use Rattle.std.specs.Prelude.{[], ◌≡◌, ◌≤◌, ◌<◌, ◌+◌, ◌-◌, ◌≤ℤ◌, ◌⊎◌, true, false, length, ℕ, None, IfOk, IfSome, IsTrue, OnOk};
 ghost use Rattle.dual_bound.specs.LeafBound.{bound_of};
 ghost use Rattle.node_ranges.specs.Ranges.{is_proper, is_single, narrowed};
 ghost use Rattle.proof_tree.specs.Tree.{IsLeaf};
+ghost use Rattle.proof_tree.specs.declared.tree.Part.TheVariants as part;
 ghost use Rattle.node_pool.specs.Pool.{IsInHand};
 ghost use Rattle.search_tree.specs.Growing.{GoesOn, HasGrown, IsHeld, IsPopped, node_of, obeys};
 ghost use Rattle.branch_search.specs.Parts.{AreSameBut, best_cents};
@@ -18,7 +19,7 @@ use escrow_units::Cents;
 use halving_tree::{Split, SplitRule};
 use node_pool::NodeId;
 use price_lp::LEAST_WEIGHT;
-use proof_tree::{Leaf, Nodes};
+use proof_tree::{Leaf, Nodes, Part};
 use search_tree::{Closing, Priced, SearchTree};
 use std::alloc::Global;
 
@@ -82,18 +83,19 @@ impl<'a> Search<'a> {
         parent: &Leaf,
         node: NodeId,
     ) -> Result<Priced, NoMemory>
-        requires proper { IsTrue (is_proper self.old.ranges split.line split.at) }
+        requires proper { IsTrue (is_proper self.old.ranges (part.Line split.line) split.at) }
         requires line { split.line < length self.old.case.book.lines }
         requires parent { IsLeaf (length self.old.case.book.needs) parent.now }
+        requires unweighted { parent.now.weights ≡ [] }
         requires weight { LEAST_WEIGHT ≤ parent.now.rho }
         ensures search { OnOk result (self.new ≡ self.old) }
         ensures side { IfOk result (IsSide self.old.case self.old.ranges split.line split.at right parent.now) }
     {
-        let line = usize::from(split.line);
-        let whole = self.ranges.intervals()[line];
-        self.ranges.narrow(self.book, split.line, split.at, right);
+        let line = Part::Line(split.line);
+        let whole = self.ranges.interval(line);
+        self.ranges.narrow(self.book, line, split.at, right);
         let priced = self.price(alloc, Some(parent), Some(node))?;
-        self.ranges.restore(split.line, whole);
+        self.ranges.restore(line, whole);
         Ok(priced)
     }
 
@@ -105,9 +107,10 @@ impl<'a> Search<'a> {
         parent: &Leaf,
         node: NodeId,
     ) -> Result<Sides, NoMemory>
-        requires proper { IsTrue (is_proper self.old.ranges split.line split.at) }
+        requires proper { IsTrue (is_proper self.old.ranges (part.Line split.line) split.at) }
         requires line { split.line < length self.old.case.book.lines }
         requires parent { IsLeaf (length self.old.case.book.needs) parent.now }
+        requires unweighted { parent.now.weights ≡ [] }
         requires weight { LEAST_WEIGHT ≤ parent.now.rho }
         ensures search { OnOk result (self.new ≡ self.old) }
         ensures left { IfOk result (λ sides. IsSide self.old.case self.old.ranges split.line split.at false parent.now sides.left) }
@@ -170,7 +173,7 @@ impl<'a> Search<'a> {
         // The nodes of a pool are one tree, and a book keeps its limits.
         prove!(tree.count() > 0);
         prove!(self.book.line_count() > 0);
-        tree.ranges_of(node, self.book, &mut self.ranges);
+        tree.ranges_of(node, self.book, &self.root, &mut self.ranges);
         match self.closing(alloc, rule, node, tree.node(node).priced.bound)? {
             Closing::Open => self.go_on(alloc, rule, tree, node),
             closing => {

@@ -1,5 +1,5 @@
 //! What a search holds: the case, what prices its nodes, the ranges of the node at hand, and the best plan so far.
-ghost use Rattle.std.specs.Prelude.{◌≡◌, ◌≤◌, ◌<◌, ◌-◌, ◌^◌, ◌≤ℤ◌, ◌<ℤ◌, false, true, pos, length, ℕ, IfOk, IfSome, OnOk, MatchOption, unsigned_abs};
+ghost use Rattle.std.specs.Prelude.{[], ◌≡◌, ◌≤◌, ◌<◌, ◌-◌, ◌^◌, ◌≤ℤ◌, ◌<ℤ◌, false, true, pos, length, ℕ, IfOk, IfSome, OnOk, MatchOption, unsigned_abs};
 ghost use Rattle.case_file.specs.Case.{CaseContents};
 ghost use Rattle.dual_bound.specs.LeafBound.{bound_of, least_cost_of};
 ghost use Rattle.node_ranges.specs.Ranges.{AreTight, is_single};
@@ -46,6 +46,8 @@ pub(crate) struct Search<'a> {
     pub base: Leaf,
     /// Room for a leaf that weighs needs alone.
     pub reach: Leaf,
+    /// The ranges of the root.
+    pub root: Ranges,
     /// The ranges of the node at hand.
     pub ranges: Ranges,
     /// Room for a portfolio of the ranges.
@@ -71,12 +73,12 @@ impl<'a> Model for Search<'a> {
 
     ghost view = { λ s. record { case = searched s.book.now s.limit s.allowance.0 s.budget; ranges = s.ranges; best = s.best } };
 
-    ghost invariant = { λ s. AreParts (searched s.book.now s.limit s.allowance.0 s.budget) s.tuner s.base s.reach s.ranges s.plan s.best s.finder };
+    ghost invariant = { λ s. AreParts (searched s.book.now s.limit s.allowance.0 s.budget) s.tuner s.base s.reach s.root s.ranges s.plan s.best s.finder };
 }
 
 // Makes of a portfolio that of the high ends of ranges. It takes no memory.
 fn put_high_ends(book: &Book, ranges: &Ranges, plan: &mut Plan)
-    requires tight { AreTight book.now.lines ranges.now }
+    requires tight { AreTight book.now ranges.now }
     requires plan { length plan.old ≡ length book.now.lines }
     ensures value { plan.new ≡ high_ends ranges.now }
     ensures permitted { IsPermitted book.now plan.new }
@@ -88,7 +90,7 @@ fn put_high_ends(book: &Book, ranges: &Ranges, plan: &mut Plan)
 
 // Makes of a portfolio that of the low ends of ranges. It takes no memory.
 fn put_low_ends(book: &Book, ranges: &Ranges, plan: &mut Plan)
-    requires tight { AreTight book.now.lines ranges.now }
+    requires tight { AreTight book.now ranges.now }
     requires plan { length plan.old ≡ length book.now.lines }
     ensures value { plan.new ≡ low_ends ranges.now }
     ensures permitted { IsPermitted book.now plan.new }
@@ -106,7 +108,7 @@ fn basis_at(bases: &[Basis], node: Option<NodeId>) -> Option<&Basis> {
 
 impl<'a> Search<'a> {
     /// Prices the ranges at hand, those of the next node, and keeps where its linear program stands. A parent's leaf counts where there
-    /// is one, and the program starts where the parent's stands.
+    /// is one, which has no weights of sums, and the program starts where the parent's stands.
     pub(crate) fn price(
         &mut self,
         alloc: Global,
@@ -114,6 +116,7 @@ impl<'a> Search<'a> {
         node: Option<NodeId>,
     ) -> Result<Priced, NoMemory>
         requires parent { IfSome parent (λ leaf. IsLeaf (length self.old.case.book.needs) leaf.now) }
+        requires unweighted { IfSome parent (λ leaf. leaf.now.weights ≡ []) }
         requires weight { IfSome parent (λ leaf. LEAST_WEIGHT ≤ leaf.now.rho) }
         ensures search { self.new ≡ self.old }
         ensures priced { IfOk result (IsPriced self.old.case self.old.ranges) }

@@ -7,6 +7,7 @@ use halving_tree::{Split, SplitRule};
 use node_pool::NodeId;
 use offer_book::{Line, LineKind};
 use plan_finder::next_to;
+use proof_tree::Part;
 
 // A cent, in units of an amount.
 const CENT: i128 = 1 << 10;
@@ -95,7 +96,7 @@ impl<'a> Search<'a> {
             return None;
         }
         let own = fraction_of(line, self.book.line(line), self.tuner.amount(line))?;
-        if self.ranges.proper(line, own.split.at) {
+        if self.ranges.proper(Part::Line(line), own.split.at) {
             Some(own)
         } else {
             None

@@ -67,12 +67,13 @@ impl<'a> Search<'a> {
         budget: u32,
     ) -> Result<Search<'a>, NoMemory>
         requires { IsSearchable (searched book.now limit.0 allowance.0 budget) }
-        ensures { IfOk result (λ search. search ≡ record { case = searched book.now limit.0 allowance.0 budget; ranges = root_of book.now.lines; best = None }) }
+        ensures { IfOk result (λ search. search ≡ record { case = searched book.now limit.0 allowance.0 budget; ranges = root_of book.now; best = None }) }
     {
         // A book keeps its limits.
         prove!(book.line_count() > 0);
         let base = base_leaf(alloc, book)?;
         let reach = Leaf::of_zeros(alloc, false, book.need_count())?;
+        let root = Ranges::root(alloc, book)?;
         let ranges = Ranges::root(alloc, book)?;
         let plan = Plan::zero(alloc, book)?;
         let limit = YieldLimit::make(alloc, limit)?;
@@ -86,6 +87,7 @@ impl<'a> Search<'a> {
             tuner,
             base,
             reach,
+            root,
             ranges,
             plan,
             best: None,
@@ -226,7 +228,7 @@ impl<'a> Search<'a> {
     {
         // A book keeps its limits.
         prove!(self.book.line_count() > 0);
-        self.ranges.reset(self.book);
+        self.ranges.copy(&self.root);
         self.bases.clear();
         let root = self.price(alloc, None, None)?;
         tree.restart(root);
@@ -314,7 +316,7 @@ impl<'a> Search<'a> {
         hint: &mut Hint,
         watcher: &mut W,
     ) -> Result<Found, SearchEnd>
-        requires ranges { self.old.ranges ≡ root_of self.old.case.book.lines }
+        requires ranges { self.old.ranges ≡ root_of self.old.case.book }
         requires none { self.old.best ≡ None }
         requires reach { IsInReach self.old.case.book }
         ensures { IsOutcome self.old.case result }
@@ -338,7 +340,7 @@ impl<'a> Search<'a> {
         hint: &mut Hint,
         watcher: &mut W,
     ) -> Result<Found, SearchEnd>
-        requires ranges { self.old.ranges ≡ root_of self.old.case.book.lines }
+        requires ranges { self.old.ranges ≡ root_of self.old.case.book }
         requires none { self.old.best ≡ None }
         requires reach { IsInReach self.old.case.book }
         ensures { IsOutcome self.old.case result }

@@ -16,6 +16,7 @@ use Rattle.offer_book.specs.Portfolio.{IsPermitted, line_payments, payments}
 use Rattle.offer_book.proofs.LineFacts.{line_payments-total}
 use Rattle.cash_table.proofs.CostFacts.{PairIsPermitted, permitted_few}
 use Rattle.cash_table.proofs.ZipFacts.{StandAt, in_zip, pair_at}
+pub use Rattle.offer_book.proofs.SumFacts.{all_lines}
 use Rattle.offer_book.specs.declared.payment_days.PaymentDays.{PaymentDays}
 
 -- the payments of one line, as a function of its pair
@@ -54,11 +55,6 @@ pub units_at : (lines : List Line) (plan : List ℕ) (i : ℕ) (line : Line) (un
 units_at lines plan i line units all at =
     let here = All-get_or PairIsPermitted (zip lines plan) i (line, units) (in_zip lines plan i line units at) all in
     permitted_few line units (subst PairIsPermitted (pair_at lines plan i line units at) here)
-
-pub all_lines : (days : PaymentDays) (lines : List Line) → AreLines days lines → All (IsLine days) lines
-all_lines days [] lines = absurd lines
-all_lines days (cash ∷ securities) lines =
-    All-cons (IsLine days) cash securities (inl lines.0) (All-weaker (IsSecurityLine days) (IsLine days) (λ line security. inr security) securities lines.1)
 
 -- all payments of a permitted portfolio are within a 64-bit number by far
 pairs_total : (days : PaymentDays) (lines : List Line) (plan : List ℕ) → IsSettlement days.settle → All (IsLine days) lines → All PairIsPermitted (zip lines plan) → All (λ p. pair_total days p ≤ 17 * 10 ^ 12) (zip lines plan)

@@ -17,23 +17,7 @@ use Rattle.cash_table.specs.Receipts.{cents_by, AreReceipts}
 use Rattle.cash_table.proofs.PaymentFacts.{pair_payments, payments_more}
 use Rattle.cash_table.proofs.ZipFacts.{StandAt, sum_by-at_more, sum_by-zero}
 use Rattle.offer_book.specs.declared.payment_days.PaymentDays.{PaymentDays}
-
-pub lt_from_test : (a b : ℤ) → int_lt a b ≡ true → a <ℤ b
-lt_from_test a b h = grind (arith, ints)
-
-pub le_from_lt_test : (a b : ℤ) → int_lt a b ≡ false → b ≤ℤ a
-le_from_lt_test a b h = grind (arith, ints)
-
-lt_trans : (a b c : ℤ) → a <ℤ b → b <ℤ c → a <ℤ c
-lt_trans a b c h k = omega (arith, ints)
-
--- the days before a day come first
-pub days_are_partitioned : (needs : List Flow) (day : ℤ) → Rise needs → IsPartitionedBy (λ need. int_lt need.day day) needs
-days_are_partitioned needs day rising = λ i j d order within later.
-    elim (cases_lt i j) [
-      | inl less ↦ int_lt-test (get_or needs i d).day day (lt_trans (get_or needs i d).day (get_or needs j d).day day (rising i j d less within) (lt_from_test (get_or needs j d).day day later))
-      | inr same ↦ (let here : i ≡ j = omega arith in ap (λ n. int_lt (get_or needs n d).day day) here ∙ later)
-    ]
+pub use Rattle.offer_book.proofs.SumFacts.{days_are_partitioned, le_from_lt_test, lt_from_test, lt_trans}
 
 -- where the last need date before a place comes before a day, so do all before the place
 pub all-before : (needs : List Flow) (day : ℤ) (place : ℕ) (need : Flow) → Rise needs → place ≤ length needs → 0 < place → need ≡ get_or needs (place - 1) need → need.day <ℤ day → AllWithin (λ need. need.day <ℤ day) needs 0 place

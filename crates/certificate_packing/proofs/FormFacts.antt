@@ -1,5 +1,5 @@
 -- Each certificate that may be packed has a text.
-use Rattle.std.proofs.Common.{◌≡◌, ◌∙◌, ℕ, zero, suc, ◌+◌, ◌≤◌, List, [], ◌∷◌, ◌++◌, All, length, map, get_or, refl, sym, ap, subst, arith, add-one, replicate, ◌==◌, Bool, true, false}
+use Rattle.std.proofs.Common.{◌≡◌, ◌∙◌, ℕ, zero, suc, ◌+◌, ◌≤◌, List, [], ◌∷◌, ◌++◌, All, length, map, get_or, refl, sym, ap, subst, arith, add-one, replicate, ◌==◌, Bool, true, false, Some}
 use Rattle.std.proofs.lemmas.List.{get_or-replicate, length-replicate}
 use Rattle.std.proofs.lemmas.List.Elements.{All-cons, All-head, All-nil, All-tail}
 use Rattle.proof_tree.specs.declared.tree.TreeNode.{TreeNode}
@@ -46,7 +46,7 @@ so-far vector prices (suc place) few long = more-so-far vector prices place few 
 -- lists of one length have a difference
 record HasDifference (vector prices : List ℕ) : Type 0 where
   changes : List Change
-  is : IsDifference vector prices changes
+  is : IsDifference (Some vector) prices changes
 
 difference : (vector prices : List ℕ) → length vector ≡ length prices → HasDifference vector prices
 difference vector prices long =
@@ -56,19 +56,19 @@ difference vector prices long =
 -- a node, and then several, packed with one vector
 record IsPackedBy (vectors : List (List ℕ)) (told : TreeNode) : Type 0 where
   said : PackedNode
-  is : IsNodePacked vectors told said
+  is : IsNodePacked false vectors told said
 
 record ArePackedBy (dates : ℕ) (vectors : List (List ℕ)) (nodes : List TreeNode) : Type 0 where
   said : List PackedNode
-  same : map (unpacked_node vectors) said ≡ nodes
+  same : map (unpacked_node dates vectors) said ≡ nodes
   are : All (IsPackedNode dates vectors) said
 
 node-by : (dates : ℕ) (vector : List ℕ) (told : TreeNode) → length vector ≡ dates → IsNode dates told → IsPackedBy (vector ∷ []) told
-node-by dates vector (tree.Split number at) long is = record { said = node.Split number at; is = refl }
+node-by dates vector (tree.Split part at) long is = record { said = node.Split part at; is = refl }
 node-by dates vector tree.Point long is = record { said = node.Point; is = refl }
 node-by dates vector (tree.Closed leaf) long is =
     let own = difference vector leaf.prices (long ∙ sym is.every_date) in
-    record { said = node.Closed leaf.rho leaf.mu 1 own.changes; is = (refl, refl, omega arith, omega arith, own.is) }
+    record { said = node.Closed leaf.rho leaf.mu 1 own.changes leaf.weights; is = (refl, refl, λ _. omega arith, omega arith, own.is, refl) }
 
 nodes-by : (dates : ℕ) (vector : List ℕ) (nodes : List TreeNode) → length vector ≡ dates → All (IsNode dates) nodes → ArePackedBy dates (vector ∷ []) nodes
 nodes-by dates vector [] long all = record { said = []; same = refl; are = All-nil (IsPackedNode dates (vector ∷ [])) }
@@ -80,9 +80,9 @@ nodes-by dates vector (told ∷ nodes) long all =
     record {
       said = first.said ∷ others.said;
       same =
-          ap (λ (n : TreeNode). n ∷ map (unpacked_node vectors) others.said) (said-same vectors told first.said first.is)
+          ap (λ (n : TreeNode). n ∷ map (unpacked_node dates vectors) others.said) (said-same false dates vectors told first.said good first.is)
           ∙ ap (λ (ns : List TreeNode). told ∷ ns) others.same;
-      are = All-cons (IsPackedNode dates vectors) first.said others.said (said-packed dates vectors told first.said good first.is) others.are;
+      are = All-cons (IsPackedNode dates vectors) first.said others.said (said-packed false dates vectors told first.said good first.is) others.are;
     }
 
 -- a vector for whatever leaves there are: each price is 0
@@ -110,6 +110,6 @@ packed-form dates cert able =
       is = record {
         packed = packed;
         text = written-packed-text dates packed (well-formed dates cert packed able (omega arith) vectors nodes.same nodes.are refl refl);
-        same = unpacked-is cert packed nodes.same refl refl;
+        same = unpacked-is dates cert packed nodes.same refl refl;
       };
     }

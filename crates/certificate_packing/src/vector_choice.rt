@@ -1,11 +1,11 @@
 //! The vectors of a packed certificate: prices of some of its leaves, to which those of the others are near.
-ghost use Rattle.std.specs.Prelude.{◌≡◌, ◌≤◌, ◌<◌, All, IfOk, length, true};
+ghost use Rattle.std.specs.Prelude.{◌≡◌, ◌≤◌, ◌<◌, All, IfOk, false, length, true};
 ghost use Rattle.std.specs.Bool.{Decides};
 ghost use Rattle.certificate_packing.specs.Packing.{AreLeafPrices, IsCandidateOf, IsLeafNode, IsLeafPlace, IsSomeForLeaf, node_prices};
 
 use bound_certificate::{MOST_VECTORS, Vectors};
 use escrow_desk::NoMemory;
-use proof_tree::{Prices, TreeNode};
+use proof_tree::{PRICE_SCALE, Prices, TreeNode};
 use std::alloc::Global;
 
 // The prices of at most so many leaves are tried as vectors: of the first that differ from each other.
@@ -65,6 +65,19 @@ fn count_differences(first: &[u64], second: &[u64]) -> u16 {
         if one != other {
             count = count.saturating_add(1);
         }
+    }
+    count
+}
+
+// As how many changes from the one before prices are said as stairs, where the first is compared with the greatest.
+pub(crate) fn count_steps(prices: &[u64]) -> u16 {
+    let mut count = 0u16;
+    let mut before = 2 * PRICE_SCALE;
+    for price in prices {
+        if *price != before {
+            count = count.saturating_add(1);
+        }
+        before = *price;
     }
     count
 }
@@ -158,28 +171,48 @@ fn take_candidate(changes: &mut [u16], differences: &[u16]) {
     }
 }
 
-// One candidate, and then those that save more changes than they have prices, each time the one that saves most, as far as there
-// is room.
+// How many changes each leaf has before there is a vector: as stairs its steps, and else more than any.
+fn first_changes(
+    alloc: Global,
+    nodes: &[TreeNode],
+    leaves: &[usize],
+    stairs: bool,
+) -> Result<Vec<u16>, NoMemory>
+    requires { All (IsLeafPlace nodes.now) leaves.now }
+{
+    let mut changes = Vec::with_capacity(alloc, leaves.len())?;
+    for leaf in leaves {
+        let count = if stairs {
+            count_steps(prices_of(&nodes[*leaf]))
+        } else {
+            u16::MAX
+        };
+        changes.push(count)?;
+    }
+    Ok(changes)
+}
+
+// One candidate, unless leaves may have stairs, and then those that save more changes than they have prices, each time the one that saves
+// most, as far as there is room.
 fn choose(
     alloc: Global,
     nodes: &[TreeNode],
     candidates: &[Candidate],
-    leaves: usize,
+    stairs: bool,
+    mut changes: Vec<u16>,
 ) -> Result<Vectors, NoMemory>
     requires candidates { All (IsCandidateOf nodes.now) candidates.now }
     requires some { 0 < length candidates.now }
     ensures prices { IfOk result (AreLeafPrices nodes.now) }
     ensures few { IfOk result (λ vectors. length vectors ≤ MOST_VECTORS) }
-    ensures some { IfOk result (λ vectors. 0 < length vectors) }
+    ensures some { IfOk result (λ vectors. stairs ≡ false → 0 < length vectors) }
 {
     let mut vectors = Vectors::new(Vec::new(alloc));
-    // Nothing is near to anything before there is a vector, and so there has to be one.
-    let mut changes = vec![in alloc; u16::MAX; leaves]?;
     while vectors.as_slice().len() < MOST_VECTORS as usize {
         let best = best_of(candidates, changes.as_slice());
         let own = &candidates[best.candidate];
         let prices = prices_of(&nodes[own.leaf]);
-        if best.saved <= prices.len() as u64 && !vectors.as_slice().is_empty() {
+        if best.saved <= prices.len() as u64 && (stairs || !vectors.as_slice().is_empty()) {
             return Ok(vectors);
         }
         take_candidate(changes.as_mut_slice(), own.differences.as_slice());
@@ -188,21 +221,26 @@ fn choose(
     Ok(vectors)
 }
 
-/// Vectors for the leaves among nodes, at most 64, and one at least where there is a leaf: each is the prices of a leaf, and each but
-/// the first saves more changes than it has prices.
+/// Vectors for the leaves among nodes, at most 64, and one at least where there is a leaf, unless leaves may have stairs: each is the
+/// prices of a leaf, and each but the first one that has to be saves more changes than it has prices.
 ///
 /// # Errors
 ///
 /// Where memory ran out.
-pub(crate) fn choose_vectors(alloc: Global, nodes: &[TreeNode]) -> Result<Vectors, NoMemory>
+pub(crate) fn choose_vectors(
+    alloc: Global,
+    nodes: &[TreeNode],
+    stairs: bool,
+) -> Result<Vectors, NoMemory>
     ensures prices { IfOk result (AreLeafPrices nodes.now) }
     ensures few { IfOk result (λ vectors. length vectors ≤ MOST_VECTORS) }
-    ensures some { IfOk result (λ vectors. IsSomeForLeaf nodes.now (length vectors)) }
+    ensures some { IfOk result (λ vectors. stairs ≡ false → IsSomeForLeaf nodes.now (length vectors)) }
 {
     let leaves = list_leaves(alloc, nodes)?;
     let candidates = list_candidates(alloc, nodes, leaves.as_slice())?;
     if candidates.is_empty() {
         return Ok(Vectors::new(Vec::new(alloc)));
     }
-    choose(alloc, nodes, candidates.as_slice(), leaves.len())
+    let changes = first_changes(alloc, nodes, leaves.as_slice(), stairs)?;
+    choose(alloc, nodes, candidates.as_slice(), stairs, changes)
 }

@@ -20,13 +20,13 @@ use Rattle.payment_schedule.specs.Schedule.{flow_by, half_year_accrual}
 use Rattle.offer_book.specs.declared.line.LineKind.TheVariants.{Cash, Market, Security}
 use Rattle.payment_schedule.specs.declared.schedule.ScheduledPayment.{ScheduledPayment}
 use Rattle.dual_bound.specs.Columns.{IsColumn, IsOther, IsPlace, column_form, column_paid, column_reduced, is_other, is_regular, kind_power, other_forms, paying, pays_at, signed_worth, worth_at, worth_between, worth_on, worth_together}
-use Rattle.dual_bound.specs.LeafBound.{cost_worth, form_of, least_side, limit_price, limit_multiplier, paid_worth, price_on, reduced_cost, signed_sum}
+use Rattle.dual_bound.specs.LeafBound.{cost_worth, priced_form, least_side, limit_price, limit_multiplier, paid_worth, price_on, priced_cost, signed_sum}
 use Rattle.dual_bound.specs.declared.column.Column.{Column}
 use Rattle.dual_bound.specs.declared.column.OtherPayment.{OtherPayment}
 use Rattle.proof_tree.specs.declared.tree.Leaf.{Leaf}
 use Rattle.dual_bound.specs.declared.worth.PricedDay.{PricedDay}
 use Rattle.dual_bound.specs.declared.worth.Worth.{Worth}
-use Rattle.dual_bound.proofs.FormFacts.{form_of-is}
+use Rattle.dual_bound.proofs.FormFacts.{priced_form-is}
 use Rattle.dual_bound.proofs.PayingFacts.{kept-count, kept-sum, no-side, unpaid-cents, unpaid-high, unpaid-low, unpaid-slack}
 use Rattle.dual_bound.proofs.Signed.{mul-comm, neg-mul, pos-mul, signed_sum-difference, signed_sum-scaled}
 use Rattle.dual_bound.proofs.Sizes.{pay_slack, pays_slope}
@@ -274,9 +274,9 @@ slack-shared n book leaf line days worths column same is h =
 -- the form of a column is that of its line
 pub column-form : (n : ℕ) (book : BookContents) (leaf : Leaf) (line : Line) (days : List PricedDay) (worths : List Worth) (column : Column)
     → length leaf.prices ≡ length book.needs → worths ≡ map (worth_on leaf) days → IsColumn n book days line column
-    → column_form (cost_worth leaf line.kind) worths column ≡ form_of n book leaf line
+    → column_form (cost_worth leaf line.kind) worths column ≡ priced_form n book leaf line
 column-form n book leaf line days worths column same is h =
-    (λ i. record { slope = slope i; slack = slack i }) ∙ sym (form_of-is n book leaf line)
+    (λ i. record { slope = slope i; slack = slack i }) ∙ sym (priced_form-is n book leaf line)
   where
     own : ℤ
     own = cost_worth leaf line.kind
@@ -348,7 +348,7 @@ paid-shared n book leaf line days worths column units same is h =
 -- the reduced cost of a column is that of its line
 pub column-reduced : (n : ℕ) (book : BookContents) (leaf : Leaf) (line : Line) (days : List PricedDay) (worths : List Worth) (column : Column) (units : ℕ)
     → length leaf.prices ≡ length book.needs → worths ≡ map (worth_on leaf) days → IsColumn n book days line column
-    → column_reduced (cost_worth leaf line.kind) (kind_rate line.kind) (line_cost line units) (par line units) worths column ≡ reduced_cost n book leaf line units
-unfolding reduced_cost
+    → column_reduced (cost_worth leaf line.kind) (kind_rate line.kind) (line_cost line units) (par line units) worths column ≡ priced_cost n book leaf line units
+unfolding priced_cost
 column-reduced n book leaf line days worths column units same is h =
     ap (λ paid. pos COEFFICIENT_SCALE *ℤ (cost_worth leaf line.kind *ℤ pos (line_cost line units) -ℤ paid)) (sym (paid-shared n book leaf line days worths column units same is h))

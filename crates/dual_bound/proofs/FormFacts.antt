@@ -19,7 +19,7 @@ use Rattle.offer_book.specs.Schedule.{kind_rate, schedule_of}
 use Rattle.offer_book.specs.declared.coefficients.PayCoefficients.{PayCoefficients}
 use Rattle.offer_book.specs.declared.line.Line.{Line}
 use Rattle.payment_schedule.specs.declared.schedule.ScheduledPayment.{ScheduledPayment}
-use Rattle.dual_bound.specs.LeafBound.{cost_worth, form_of, least_side, paid_worth}
+use Rattle.dual_bound.specs.LeafBound.{cost_worth, priced_form, least_side, paid_worth}
 use Rattle.dual_bound.specs.declared.form.Form.{Form}
 use Rattle.proof_tree.specs.declared.tree.Leaf.{Leaf}
 use Rattle.dual_bound.proofs.Signed.{signed_sum_more}
@@ -33,10 +33,10 @@ form_with weight own costs pays = record {
   slack = unsigned_abs own * costs.slack + sum_by (pay_slack weight) pays;
 }
 
-pub form_of-is : (n : ℕ) (book : BookContents) (leaf : Leaf) (line : Line)
-    → form_of n book leaf line ≡ form_with (paid_worth n book leaf line.kind) (cost_worth leaf line.kind) (cost_coefficients line) (pay_coefficients book.days line)
-unfolding form_of
-form_of-is n book leaf line = refl
+pub priced_form-is : (n : ℕ) (book : BookContents) (leaf : Leaf) (line : Line)
+    → priced_form n book leaf line ≡ form_with (paid_worth n book leaf line.kind) (cost_worth leaf line.kind) (cost_coefficients line) (pay_coefficients book.days line)
+unfolding priced_form
+priced_form-is n book leaf line = refl
 
 abbrev pub form_plus : Form → Form → Form
 form_plus first second = record { slope = first.slope +ℤ second.slope; slack = first.slack + second.slack }

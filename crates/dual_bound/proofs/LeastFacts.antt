@@ -1,6 +1,5 @@
 -- What a line adds at least, while prices change that don't count for it.
 use Rattle.std.proofs.Common.{◌≡◌, ◌∙◌, ◌⊎◌, ℕ, zero, suc, ◌+◌, ◌*◌, ◌<◌, ◌≤◌, ◌==◌, if◌then◌else◌, List, [], ◌∷◌, All, get_or, length, map, set, refl, sym, ap, subst, arith, inl, inr, ℤ, pos, ◌+ℤ◌, ◌-ℤ◌, ◌*ℤ◌, neg_ℤ, unsigned_abs}
-use Rattle.std.specs.Int.{int_min}
 use Rattle.std.specs.List.{AllZip, Contains, filter, sum_by}
 use Rattle.std.proofs.lemmas.Bool.{cases_eq, cases_lt}
 use Rattle.std.proofs.lemmas.List.{get_or-map, get_or-set_other, get_or_default, get_or_past}
@@ -16,18 +15,19 @@ use Rattle.offer_book.specs.declared.line.LineKind.TheVariants.{Cash, Market, Se
 use Rattle.payment_schedule.specs.Schedule.{flow_by}
 use Rattle.dual_bound.specs.Changes.{AreChangedDates}
 use Rattle.dual_bound.specs.Columns.{IsColumn, IsOther, IsPlace, column_form, column_reduced, form_plus, is_other, is_regular, other_forms, paying, regular_form, signed_worth, worth_at, worth_on, worth_together}
-use Rattle.dual_bound.specs.LeafBound.{cost_worth, form_at, form_of, least_side, least_within, reduced_cost, signed_sum}
+use Rattle.dual_bound.specs.LeafBound.{cost_worth, credited, least_by, least_of_form, least_side, priced_cost, priced_form, signed_sum}
 use Rattle.dual_bound.specs.Leasts.{AgreeInside, AreApart, AreLeasts, IsInside, IsLeast, IsPricedBy, IsPricedInside, IsRight, IsSpanOf}
-use Rattle.proof_tree.specs.Tree.{with_price}
+use Rattle.dual_bound.specs.Loads.{unweighted, with_weights}
+use Rattle.proof_tree.specs.Tree.{AreSumWeights, IsLeaf, with_price}
 use Rattle.dual_bound.specs.declared.column.Column.{Column}
 use Rattle.dual_bound.specs.declared.column.OtherPayment.{OtherPayment}
 use Rattle.dual_bound.specs.declared.leasts.Least.{Least}
 use Rattle.dual_bound.specs.declared.leasts.Leasts.{Leasts}
 use Rattle.dual_bound.specs.declared.leasts.Span.{Span}
 use Rattle.dual_bound.specs.declared.leasts.TheConstants.{PAST_DATES}
-use Rattle.proof_tree.specs.declared.prices.TheConstants.{PRICE_SCALE}
 use Rattle.proof_tree.specs.declared.interval.Interval.{Interval}
 use Rattle.proof_tree.specs.declared.tree.Leaf.{Leaf}
+use Rattle.proof_tree.specs.declared.weights.SumWeight.{SumWeight}
 use Rattle.dual_bound.specs.declared.worth.PricedDay.{PricedDay}
 use Rattle.dual_bound.specs.declared.worth.Worth.{Worth}
 use Rattle.dual_bound.proofs.ColumnLinks.{column-form, column-reduced}
@@ -126,25 +126,36 @@ same-worths n book line days column span old new own inside agree = record {
   rest = λ k d lt. same-at days span old new (get_or column.others.items k d).place agree (inside.others k d lt) (others-there n book line days column own k d lt);
 }
 
-same-least : (n : ℕ) (book : BookContents) (old new : Leaf) (line : Line) (interval : Interval) → form_of n book old line ≡ form_of n book new line
-    → ((units : ℕ) → reduced_cost n book old line units ≡ reduced_cost n book new line units) → least_within n book old line interval ≡ least_within n book new line interval
-same-least n book old new line interval form reduced =
+same-least : (n : ℕ) (book : BookContents) (old new : Leaf) (line : Line) (own_load : ℤ) (interval : Interval) → priced_form n book old line ≡ priced_form n book new line
+    → ((units : ℕ) → priced_cost n book old line units ≡ priced_cost n book new line units) → least_by n book old line own_load interval ≡ least_by n book new line own_load interval
+same-least n book old new line own_load interval form reduced =
     λ i. if interval.low == interval.high
-    then reduced interval.low i
-    else if interval.low == 0
-    then int_min (pos 0) (int_min (form_at (form i) line.least) (form_at (form i) interval.high))
-    else int_min (form_at (form i) interval.low) (form_at (form i) interval.high)
+    then reduced interval.low i -ℤ own_load *ℤ pos interval.low
+    else least_of_form (credited (form i) own_load) line interval
+
+-- weights of sums count for a line by its load alone
+pub least-weighted : (n : ℕ) (book : BookContents) (leaf : Leaf) (weights : List SumWeight) (line : Line) (own_load : ℤ) (interval : Interval)
+    → least_by n book leaf line own_load interval ≡ least_by n book (with_weights leaf weights) line own_load interval
+unfolding priced_form priced_cost
+least-weighted n book leaf weights line own_load interval = refl
+
+pub form-weighted : (n : ℕ) (book : BookContents) (leaf : Leaf) (weights : List SumWeight) (line : Line) → priced_form n book leaf line ≡ priced_form n book (with_weights leaf weights) line
+unfolding priced_form
+form-weighted n book leaf weights line = refl
+
+pub with-weights : (dates : ℕ) (leaf : Leaf) (weights : List SumWeight) → IsLeaf dates leaf → AreSumWeights dates weights → IsLeaf dates (with_weights leaf weights)
+with-weights dates leaf weights well are = record { cost = well.cost; limit = well.limit; every_date = well.every_date; range = well.range; falling = well.falling; weights = are }
 
 -- a span of a column's payments holds what prices its line
 pub priced-by : (n : ℕ) (book : BookContents) (line : Line) (days : List PricedDay) (column : Column) (span : Span) → IsColumn n book days line column → IsSpanOf days column span
     → IsPricedBy n book line span
 priced-by n book line days column span own inside =
-    λ old new old_long new_long agree interval.
+    λ old new old_long new_long agree own_load interval.
     let worths = map (worth_on old) days in
     let others = map (worth_on new) days in
     let cost = same-cost old new agree.cost agree.limit line.kind in
     let same = same-worths n book line days column span old new own inside agree in
-    same-least n book old new line interval
+    same-least n book old new line own_load interval
     (sym (column-form n book old line days worths column old_long refl own) ∙ same-form (cost_worth old line.kind) worths others column same
     ∙ ap (λ z. column_form z others column) cost ∙ column-form n book new line days others column new_long refl own)
     (λ units.
@@ -173,10 +184,11 @@ all-stay n book old new changed wider leasts old_long new_long agree h =
     stays : (line : Line) (own : Least) → IsLeast n book old changed line own → IsLeast n book new wider line own
     stays line own is = record {
       start = is.start;
+      load = is.load;
       priced = is.priced;
       right = λ apart.
           is.right (agree own.span is.start apart).0
-          ∙ is.priced old new old_long new_long (agree own.span is.start apart).1 own.interval;
+          ∙ is.priced old new old_long new_long (agree own.span is.start apart).1 own.unit_load own.interval;
     }
 
 -- what is priced within a span is priced within a wider one, one payment more
@@ -236,7 +248,7 @@ all-right n book leaf changed after [] [] h right = tt
 all-right n book leaf changed after [] (own ∷ leasts) h right = absurd h
 all-right n book leaf changed after (line ∷ lines) [] h right = absurd h
 all-right n book leaf changed after (line ∷ lines) (own ∷ leasts) h right = (
-  record { start = h.0.start; priced = h.0.priced; right = λ apart. right 0 line own (omega arith) },
+  record { start = h.0.start; load = h.0.load; priced = h.0.priced; right = λ apart. right 0 line own (omega arith) },
   all-right n book leaf changed after lines leasts h.1 (λ k d e lt. right (suc k) d e (omega arith)),
 )
 
@@ -268,3 +280,15 @@ right-more n book leaf old new line before own others k d e few =
           let at : line ≡ k = omega (arith, few, late) in
           subst (λ j. IsRight n book leaf (get_or book.lines j d) (get_or new j e)) at (own d e)
     ]
+
+-- what is known of lines doesn't rest on the weights of sums of a leaf: a least has its load with it
+pub leasts-unweighted : (n : ℕ) (book : BookContents) (leaf : Leaf) (leasts : Leasts) → AreLeasts n book leaf leasts → AreLeasts n book (unweighted leaf) leasts
+leasts-unweighted n book leaf leasts are =
+    zip-weaker (IsLeast n book leaf leasts.changed) (IsLeast n book (unweighted leaf) leasts.changed) book.lines leasts.lines.items
+    (λ line own is.
+    record {
+      start = is.start;
+      load = is.load;
+      priced = is.priced;
+      right = λ apart. is.right apart ∙ least-weighted n book leaf [] line own.unit_load own.interval;
+    }) are

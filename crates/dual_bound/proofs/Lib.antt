@@ -8,6 +8,7 @@ pub mod DateFacts
 pub mod DayFacts
 pub mod FormFacts
 pub mod LeastFacts
+pub mod LoadFacts
 pub mod LineBound
 pub mod NeedsFacts
 pub mod PayingFacts

@@ -15,13 +15,13 @@ use Rattle.offer_book.specs.Portfolio.{IsPermittedUnits, line_cost, line_payment
 use Rattle.offer_book.specs.declared.coefficients.PayCoefficients.{PayCoefficients}
 use Rattle.offer_book.specs.declared.coefficients.TheConstants.{COEFFICIENT_SCALE}
 use Rattle.offer_book.specs.declared.line.Line.{Line}
-use Rattle.dual_bound.specs.LeafBound.{cost_worth, form_at, form_of, least_side, least_within, paid_worth, reduced_cost, signed_sum}
+use Rattle.dual_bound.specs.LeafBound.{cost_worth, credited, form_at, priced_form, least_side, least_by, paid_worth, priced_cost, signed_sum}
 use Rattle.node_ranges.specs.Ranges.{LieIn}
 use Rattle.dual_bound.specs.declared.form.Form.{Form}
 use Rattle.proof_tree.specs.declared.interval.Interval.{Interval}
 use Rattle.proof_tree.specs.declared.tree.Leaf.{Leaf}
 use Rattle.dual_bound.proofs.Sizes.{abs-neg, pay_slack, pays_slope}
-use Rattle.dual_bound.proofs.Signed.{add-mul, mul-add, mul-comm, mul-neg, mul-sub, neg-mul, pos-mul, scale-in}
+use Rattle.dual_bound.proofs.Signed.{add-mul, mul-add, mul-comm, mul-neg, mul-sub, neg-mul, pos-mul, scale-in, sub-mul}
 
 -- the side of a coefficient by the sign of its weight
 side-above : (m low high : ℕ) → least_side (pos m) low high ≡ pos m *ℤ pos low
@@ -92,8 +92,8 @@ pays-le weight units (pay ∷ pays) (flow ∷ flows) all =
 
 -- the form of a line is never above its reduced cost
 form-le : (n : ℕ) (book : BookContents) (leaf : Leaf) (line : Line) (units : ℕ) → EnclosesUnits book.days line units
-    → form_at (form_of n book leaf line) units ≤ℤ reduced_cost n book leaf line units
-unfolding form_of reduced_cost
+    → form_at (priced_form n book leaf line) units ≤ℤ priced_cost n book leaf line units
+unfolding priced_form priced_cost
 form-le n book leaf line units encloses =
     let weight = paid_worth n book leaf line.kind in
     let own = cost_worth leaf line.kind in
@@ -128,40 +128,59 @@ worth-none weight (flow ∷ flows) none =
     let rest = worth-none weight flows (All-tail (λ (f : Flow). f.cents.0 ≡ 0) flow flows none) in
     (λ i. (first ∙ nothing) i +ℤ rest i)
 
-reduced_cost-none : (n : ℕ) (book : BookContents) (leaf : Leaf) (line : Line) (units : ℕ) → units ≡ 0 → reduced_cost n book leaf line units ≡ pos 0
-unfolding reduced_cost
-reduced_cost-none n book leaf line units none =
+priced_cost-none : (n : ℕ) (book : BookContents) (leaf : Leaf) (line : Line) (units : ℕ) → units ≡ 0 → priced_cost n book leaf line units ≡ pos 0
+unfolding priced_cost
+priced_cost-none n book leaf line units none =
     let own : cost_worth leaf line.kind *ℤ pos (line_cost line units) ≡ cost_worth leaf line.kind *ℤ pos 0 = ap (λ m. cost_worth leaf line.kind *ℤ pos m) (line_cost-none line units none) in
     let nothing : cost_worth leaf line.kind *ℤ pos 0 ≡ pos 0 = omega (arith, ints) in
     let paid = worth-none (paid_worth n book leaf line.kind) (line_payments book.days line units) (line_payments-none book.days line units none) in
     (λ i. pos COEFFICIENT_SCALE *ℤ ((own ∙ nothing) i -ℤ paid i))
 
-pub least-le : (n : ℕ) (book : BookContents) (leaf : Leaf) (line : Line) (interval : Interval) (units : ℕ) → EnclosesUnits book.days line units
+-- where each unit is credited a load, a form is never above what units cost less what they are credited
+credited-le : (n : ℕ) (book : BookContents) (leaf : Leaf) (line : Line) (own_load : ℤ) (units : ℕ) → EnclosesUnits book.days line units
+    → form_at (credited (priced_form n book leaf line) own_load) units ≤ℤ (priced_cost n book leaf line units -ℤ own_load *ℤ pos units)
+credited-le n book leaf line own_load units encloses =
+    let exact = form-le n book leaf line units encloses in
+    let apart = sub-mul (priced_form n book leaf line).slope own_load (pos units) in
+    joined _ _ _ _ (priced_form n book leaf line).slack exact apart
+  where
+    joined : (whole sloped loaded cost : ℤ) (slack : ℕ) → (sloped -ℤ pos slack) ≤ℤ cost → whole ≡ sloped -ℤ loaded → (whole -ℤ pos slack) ≤ℤ (cost -ℤ loaded)
+    joined whole sloped loaded cost slack exact apart = omega (arith, ints, exact, apart)
+
+-- no units cost nothing, and are credited nothing
+pub credited-none : (n : ℕ) (book : BookContents) (leaf : Leaf) (line : Line) (own_load : ℤ) (units : ℕ) → units ≡ 0 → priced_cost n book leaf line units -ℤ own_load *ℤ pos units ≡ pos 0
+credited-none n book leaf line own_load units none =
+    let cost = priced_cost-none n book leaf line units none in
+    let own : own_load *ℤ pos units ≡ own_load *ℤ pos 0 = ap (λ (m : ℕ). own_load *ℤ pos m) none in
+    let nothing : own_load *ℤ pos 0 ≡ pos 0 = omega (arith, ints) in
+    omega (arith, ints, cost, own, nothing)
+
+pub least-le : (n : ℕ) (book : BookContents) (leaf : Leaf) (line : Line) (own_load : ℤ) (interval : Interval) (units : ℕ) → EnclosesUnits book.days line units
     → IsPermittedUnits line units → LieIn interval units
-    → least_within n book leaf line interval ≤ℤ reduced_cost n book leaf line units
-least-le n book leaf line interval units encloses permitted inside = at (interval.low == interval.high) refl (interval.low == 0) refl
+    → least_by n book leaf line own_load interval ≤ℤ (priced_cost n book leaf line units -ℤ own_load *ℤ pos units)
+least-le n book leaf line own_load interval units encloses permitted inside = at (interval.low == interval.high) refl (interval.low == 0) refl
   where
     form : Form
-    form = form_of n book leaf line
+    form = credited (priced_form n book leaf line) own_load
 
-    exact : form_at form units ≤ℤ reduced_cost n book leaf line units
-    exact = form-le n book leaf line units encloses
+    exact : form_at form units ≤ℤ (priced_cost n book leaf line units -ℤ own_load *ℤ pos units)
+    exact = credited-le n book leaf line own_load units encloses
 
-    between : (a : ℕ) → a ≤ units → int_min (form_at form a) (form_at form interval.high) ≤ℤ reduced_cost n book leaf line units
+    between : (a : ℕ) → a ≤ units → int_min (form_at form a) (form_at form interval.high) ≤ℤ (priced_cost n book leaf line units -ℤ own_load *ℤ pos units)
     between a from = omega (arith, ints, exact, affine-least form a units interval.high from inside.high)
 
-    from_zero : IsPermittedUnits line units → int_min (pos 0) (int_min (form_at form line.least) (form_at form interval.high)) ≤ℤ reduced_cost n book leaf line units
-    from_zero (inl none) = omega (arith, ints, clamps, reduced_cost-none n book leaf line units none)
+    from_zero : IsPermittedUnits line units → int_min (pos 0) (int_min (form_at form line.least) (form_at form interval.high)) ≤ℤ (priced_cost n book leaf line units -ℤ own_load *ℤ pos units)
+    from_zero (inl none) = omega (arith, ints, clamps, credited-none n book leaf line own_load units none)
     from_zero (inr some) = omega (arith, ints, clamps, between line.least some.0)
 
     at : (one : Bool) → (interval.low == interval.high) ≡ one → (zero_low : Bool) → (interval.low == 0) ≡ zero_low
         → (if one
-        then reduced_cost n book leaf line interval.low
+        then priced_cost n book leaf line interval.low -ℤ own_load *ℤ pos interval.low
         else if zero_low
         then int_min (pos 0) (int_min (form_at form line.least) (form_at form interval.high))
-        else int_min (form_at form interval.low) (form_at form interval.high)) ≤ℤ reduced_cost n book leaf line units
+        else int_min (form_at form interval.low) (form_at form interval.high)) ≤ℤ (priced_cost n book leaf line units -ℤ own_load *ℤ pos units)
     at true one zero_low z =
         let here : interval.low ≡ units = grind (arith, inside.low, inside.high) in
-        omega (arith, ints, ap (reduced_cost n book leaf line) here)
+        omega (arith, ints, ap (λ (x : ℕ). priced_cost n book leaf line x -ℤ own_load *ℤ pos x) here)
     at false one true z = from_zero permitted
     at false one false z = between interval.low inside.low

@@ -28,6 +28,9 @@ neg-mul a b = mul-comm (neg_ℤ a) b ∙ (mul-neg b a ∙ ap (λ z. neg_ℤ z) (
 pub add-mul : (a b c : ℤ) → (a +ℤ b) *ℤ c ≡ a *ℤ c +ℤ b *ℤ c
 add-mul a b c = mul-comm (a +ℤ b) c ∙ (mul-add c a b ∙ (λ i. mul-comm c a i +ℤ mul-comm c b i))
 
+pub sub-mul : (a b c : ℤ) → (a -ℤ b) *ℤ c ≡ a *ℤ c -ℤ b *ℤ c
+sub-mul a b c = mul-comm (a -ℤ b) c ∙ (mul-sub c a b ∙ (λ i. mul-comm c a i -ℤ mul-comm c b i))
+
 pub pos-mul : (a b : ℕ) → pos a *ℤ pos b ≡ pos (a * b)
 pos-mul a b = omega (arith, ints)
 
@@ -35,6 +38,21 @@ pos-mul a b = omega (arith, ints)
 pub scale-in : (k c : ℕ) (a : ℤ) → pos k *ℤ (a *ℤ pos c) ≡ a *ℤ pos (k * c)
 scale-in k c a =
     omega (arith, ints, product_is (pos k) (a *ℤ pos c), product_is a (pos (k * c)), ap (λ n. k * n) (product_is a (pos c)).0, ap (λ n. k * n) (product_is a (pos c)).1)
+
+pub scaled-mul : (k : ℕ) (a : ℤ) (c : ℕ) → (pos k *ℤ a) *ℤ pos c ≡ pos k *ℤ (a *ℤ pos c)
+scaled-mul k a c =
+    omega (
+      arith,
+      ints,
+      product_is (pos k *ℤ a) (pos c),
+      product_is (pos k) a,
+      product_is (pos k) (a *ℤ pos c),
+      product_is a (pos c),
+      ap (λ n. n * c) (product_is (pos k) a).0,
+      ap (λ n. n * c) (product_is (pos k) a).1,
+      ap (λ n. k * n) (product_is a (pos c)).0,
+      ap (λ n. k * n) (product_is a (pos c)).1,
+    )
 
 -- a factor that isn't negative keeps an order
 pub scale-le : (k : ℕ) (a b : ℤ) → a ≤ℤ b → (pos k *ℤ a) ≤ℤ (pos k *ℤ b)
@@ -48,6 +66,11 @@ signed_sum-scaled k f (x ∷ xs) = mul-add k (f x) (signed_sum f xs) ∙ ap (λ 
 pub signed_sum-le : {X : Type 0} (f g : X → ℤ) (xs : List X) → ((x : X) → f x ≤ℤ g x) → signed_sum f xs ≤ℤ signed_sum g xs
 signed_sum-le f g [] le = omega (arith, ints)
 signed_sum-le f g (x ∷ xs) le = omega (arith, ints, le x, signed_sum-le f g xs le)
+
+-- a sum of signed differences is the difference of the sums
+pub signed_sum-apart : {X : Type 0} (a b : X → ℤ) (xs : List X) → signed_sum (λ x. a x -ℤ b x) xs ≡ signed_sum a xs -ℤ signed_sum b xs
+signed_sum-apart a b [] = omega (arith, ints)
+signed_sum-apart a b (x ∷ xs) = omega (arith, ints, signed_sum-apart a b xs)
 
 -- a sum of differences is the difference of the sums
 pub signed_sum-difference : {X : Type 0} (a b : X → ℕ) (xs : List X) → signed_sum (λ x. pos (a x) -ℤ pos (b x)) xs ≡ pos (sum_by a xs) -ℤ pos (sum_by b xs)

@@ -5,7 +5,7 @@ use Rattle.std.proofs.lemmas.Int.{ints}
 use Rattle.std.proofs.lemmas.List.Elements.{All-cons, All-head, All-tail, All-weaker}
 use Rattle.std.proofs.lemmas.List.Sums.{sum_by-append, sum_by-cons}
 use Rattle.std.proofs.Math.Nat.{mul-le-mul_left, mul-le-mul_right}
-use Rattle.std.specs.List.{flat_map, sum_by, zip}
+use Rattle.std.specs.List.{AllZip, flat_map, sum_by, zip}
 use Rattle.escrow_units.specs.Flows.{index360_of, indexed}
 use Rattle.escrow_units.specs.PresentValue.{IndexedFlow}
 use Rattle.escrow_units.specs.declared.security.Flow.{Flow}
@@ -20,19 +20,21 @@ use Rattle.offer_book.specs.Book.{AreLines, BookContents, IsBook, IsCashLine, Is
 use Rattle.offer_book.specs.Coefficients.{EnclosesUnits}
 use Rattle.offer_book.specs.Portfolio.{IsPermitted, IsPermittedUnits, Meets, cost, line_cost, line_payments, payments, security_cost, security_flows}
 use Rattle.offer_book.specs.Rival.{IsRival}
+use Rattle.offer_book.specs.Sums.{coarse_step}
 use Rattle.offer_book.specs.declared.coefficients.TheConstants.{COEFFICIENT_SCALE}
 use Rattle.offer_book.specs.declared.line.Line.{Line}
 use Rattle.offer_book.specs.declared.line.LineKind.{LineKind}
 use Rattle.offer_book.specs.declared.line.LineKind.TheVariants.{Cash, Market, Security}
 use Rattle.dual_bound.specs.Duality.{BoundsAll, BoundsRivals, CostsAtLeast}
-use Rattle.dual_bound.specs.LeafBound.{bound_of, least_within, limit_price, limit_multiplier, price_on, priced_needs, reduced_cost, signed_sum}
-use Rattle.node_ranges.specs.Ranges.{IsWithin}
+use Rattle.dual_bound.specs.LeafBound.{bound_of, least_within, limit_multiplier, limit_price, price_on, priced_cost, priced_needs, reduced_cost, signed_sum, unit_load, weighed_ends}
+use Rattle.node_ranges.specs.Ranges.{IsWithin, LieIn, RangesContents}
 use Rattle.proof_tree.specs.Tree.{IsLeaf}
 use Rattle.proof_tree.specs.declared.interval.Interval.{Interval}
 use Rattle.proof_tree.specs.declared.tree.Leaf.{Leaf}
 use Rattle.dual_bound.proofs.Coverage.{covered-worth, paid_at}
 use Rattle.dual_bound.proofs.LineBound.{least-le}
-use Rattle.dual_bound.proofs.Signed.{add-mul, mul-sub, neg-mul, pos-mul, signed_sum-difference, signed_sum-scaled}
+use Rattle.dual_bound.proofs.LoadFacts.{ends-le, loaded-sum, loads-weigh}
+use Rattle.dual_bound.proofs.Signed.{add-mul, mul-sub, neg-mul, pos-mul, signed_sum-apart, signed_sum-difference, signed_sum-scaled}
 use Rattle.offer_book.specs.declared.payment_days.PaymentDays.{PaymentDays}
 
 -- ---- sums over the lines of a portfolio
@@ -77,8 +79,8 @@ worth-parts price limit (flow ∷ flows) =
 
 -- the reduced cost of units of a line
 reduced-parts : (n : ℕ) (book : BookContents) (leaf : Leaf) (p : Line × ℕ)
-    → reduced_cost n book leaf p.0 p.1 ≡ pos COEFFICIENT_SCALE *ℤ (pos (charged n book leaf p) -ℤ pos (credited book leaf p))
-unfolding reduced_cost
+    → priced_cost n book leaf p.0 p.1 ≡ pos COEFFICIENT_SCALE *ℤ (pos (charged n book leaf p) -ℤ pos (credited book leaf p))
+unfolding priced_cost
 reduced-parts n book leaf p =
     let own = difference-mul (leaf.rho) (limit_multiplier leaf p.0.kind) (pair_cost p) in
     let paid = worth-parts (price_on book.needs leaf.prices) (limit_price n book.days.settle (limit_multiplier leaf p.0.kind)) (line_payments book.days p.0 p.1) in
@@ -89,14 +91,14 @@ reduced-parts n book leaf p =
     joined a b c d x y own paid = omega (arith, ints)
 
 reduced-sum : (n : ℕ) (book : BookContents) (leaf : Leaf) (pairs : List (Line × ℕ))
-    → signed_sum (λ p. reduced_cost n book leaf p.0 p.1) pairs
+    → signed_sum (λ p. priced_cost n book leaf p.0 p.1) pairs
     ≡ pos COEFFICIENT_SCALE *ℤ (pos (sum_by (charged n book leaf) pairs) -ℤ pos (sum_by (credited book leaf) pairs))
 reduced-sum n book leaf pairs =
     each pairs
     ∙ sym (signed_sum-scaled (pos COEFFICIENT_SCALE) (λ p. pos (charged n book leaf p) -ℤ pos (credited book leaf p)) pairs)
     ∙ ap (λ z. pos COEFFICIENT_SCALE *ℤ z) (signed_sum-difference (charged n book leaf) (credited book leaf) pairs)
   where
-    each : (xs : List (Line × ℕ)) → signed_sum (λ p. reduced_cost n book leaf p.0 p.1) xs ≡ signed_sum (λ p. pos COEFFICIENT_SCALE *ℤ (pos (charged n book leaf p) -ℤ pos (credited book leaf p))) xs
+    each : (xs : List (Line × ℕ)) → signed_sum (λ p. priced_cost n book leaf p.0 p.1) xs ≡ signed_sum (λ p. pos COEFFICIENT_SCALE *ℤ (pos (charged n book leaf p) -ℤ pos (credited book leaf p))) xs
     each [] = refl
     each (p ∷ xs) = (λ i. reduced-parts n book leaf p i +ℤ each xs i)
 
@@ -109,15 +111,31 @@ all-lines days (cash ∷ securities) are =
 -- the least of each line is at most its reduced cost
 least-sum : (n : ℕ) (book : BookContents) (leaf : Leaf) (lines : List Line) (ranges : List Interval) (plan : List ℕ)
     → ((line : Line) (units : ℕ) → IsLine book.days line → EnclosesUnits book.days line units) → All (IsLine book.days) lines
-    → All (λ p. IsPermittedUnits p.0 p.1) (zip lines plan) → length plan ≡ length lines → IsWithin ranges plan
+    → All (λ p. IsPermittedUnits p.0 p.1) (zip lines plan) → length plan ≡ length lines → AllZip LieIn ranges plan
     → signed_sum (λ p. least_within n book leaf p.0 p.1) (zip lines ranges) ≤ℤ signed_sum (λ p. reduced_cost n book leaf p.0 p.1) (zip lines plan)
 least-sum n book leaf [] ranges plan enclose are permitted same inside = omega (arith, ints)
 least-sum n book leaf (line ∷ lines) ranges [] enclose are permitted same inside = absurd (omega arith)
 least-sum n book leaf (line ∷ lines) [] (units ∷ plan) enclose are permitted same inside = absurd inside
 least-sum n book leaf (line ∷ lines) (interval ∷ ranges) (units ∷ plan) enclose are permitted same inside =
-    let own = least-le n book leaf line interval units (enclose line units (All-head (IsLine book.days) line lines are)) (All-head (λ (p : Line × ℕ). IsPermittedUnits p.0 p.1) (line, units) (zip lines plan) permitted) inside.0 in
+    let own =
+    least-le n book leaf line (unit_load book leaf.weights line) interval units (enclose line units (All-head (IsLine book.days) line lines are))
+    (All-head (λ (p : Line × ℕ). IsPermittedUnits p.0 p.1) (line, units) (zip lines plan) permitted) inside.0 in
     let rest = least-sum n book leaf lines ranges plan enclose (All-tail (IsLine book.days) line lines are) (All-tail (λ (p : Line × ℕ). IsPermittedUnits p.0 p.1) (line, units) (zip lines plan) permitted) (omega arith) inside.1 in
     omega (arith, ints, own, rest)
+
+-- what all lines are credited by the weights of sums is at least what their ends add: so it can be left out with them
+ends-credited : (n : ℕ) (book : BookContents) (ranges : RangesContents) (leaf : Leaf) (plan : List ℕ) → IsLeaf (length book.needs) leaf → length plan ≡ length book.lines → IsWithin book ranges plan
+    → (weighed_ends book ranges.sums leaf.weights +ℤ signed_sum (λ p. reduced_cost n book leaf p.0 p.1) (zip book.lines plan))
+    ≤ℤ signed_sum (λ p. priced_cost n book leaf p.0 p.1) (zip book.lines plan)
+ends-credited n book ranges leaf plan well same inside =
+    let pairs = zip book.lines plan in
+    let apart = signed_sum-apart (λ (p : Line × ℕ). priced_cost n book leaf p.0 p.1) (λ p. unit_load book leaf.weights p.0 *ℤ pos p.1) pairs in
+    let by_sums = loaded-sum book leaf.weights pairs ∙ ap (λ (z : ℤ). pos (COEFFICIENT_SCALE * coarse_step book) *ℤ z) (loads-weigh book leaf.weights book.lines plan same) in
+    let ends = ends-le book ranges.sums leaf.weights plan inside.sums well.weights.each in
+    joined _ _ _ _ _ apart by_sums ends
+  where
+    joined : (ends reduced exact loaded weighed : ℤ) → reduced ≡ exact -ℤ loaded → loaded ≡ weighed → ends ≤ℤ weighed → (ends +ℤ reduced) ≤ℤ exact
+    joined ends reduced exact loaded weighed apart same below = omega (arith, ints)
 
 -- ---- the inequality of duality, in whole numbers
 -- the charges of all lines
@@ -151,8 +169,8 @@ credited-sum book leaf (p ∷ pairs) =
     )
 
 -- a portfolio whose limit is credited at least what it takes costs at least the bound
-bound-le : (n : ℕ) (book : BookContents) (ranges : List Interval) (leaf : Leaf) (plan : List ℕ) → IsBook book → IsLeaf (length book.needs) leaf
-    → IsPermitted book plan → Meets book plan → IsWithin ranges plan
+bound-le : (n : ℕ) (book : BookContents) (ranges : RangesContents) (leaf : Leaf) (plan : List ℕ) → IsBook book → IsLeaf (length book.needs) leaf
+    → IsPermitted book plan → Meets book plan → IsWithin book ranges plan
     → sum_by (limited n book leaf) (zip book.lines plan) ≤ sum_by (limit_credit leaf) (zip book.lines plan)
     → CostsAtLeast (bound_of n book ranges leaf) book leaf plan
 unfolding bound_of
@@ -163,18 +181,19 @@ bound-le n book ranges leaf plan limits well permitted covered inside granted =
     sum-flat_map (at_rate (price_on book.needs leaf.prices)) (λ (p : Line × ℕ). line_payments book.days p.0 p.1) pairs in
     let charges = charged-sum n book leaf pairs in
     let credits = credited-sum book leaf pairs in
-    let least = least-sum n book leaf book.lines ranges plan (λ line units is. coefficients-enclose book.days line limits.settlement is units) (all-lines book.days book.lines limits.lines)
-    permitted.units permitted.same_length inside in
+    let least = least-sum n book leaf book.lines ranges.lines plan (λ line units is. coefficients-enclose book.days line limits.settlement is units) (all-lines book.days book.lines limits.lines)
+    permitted.units permitted.same_length inside.lines in
+    let ends = ends-credited n book ranges leaf plan well permitted.same_length inside in
     let exact = reduced-sum n book leaf pairs in
     let whole : priced_needs book.needs leaf.prices + sum_by (charged n book leaf) pairs ≤ leaf.rho * cost book plan + sum_by (credited book leaf) pairs = omega arith in
     let scaled = mul-le-mul_left COEFFICIENT_SCALE whole in
     let split = mul-sub (pos COEFFICIENT_SCALE) (pos (sum_by (charged n book leaf) pairs)) (pos (sum_by (credited book leaf) pairs)) in
-    joined _ _ _ _ (COEFFICIENT_SCALE * priced_needs book.needs leaf.prices) (COEFFICIENT_SCALE * (leaf.rho * cost book plan)) _ _
-    least (exact ∙ split) (pos-mul COEFFICIENT_SCALE (sum_by (charged n book leaf) pairs)) (pos-mul COEFFICIENT_SCALE (sum_by (credited book leaf) pairs)) (omega arith)
+    joined _ _ _ _ _ _ (COEFFICIENT_SCALE * priced_needs book.needs leaf.prices) (COEFFICIENT_SCALE * (leaf.rho * cost book plan)) _ _
+    least ends (exact ∙ split) (pos-mul COEFFICIENT_SCALE (sum_by (charged n book leaf) pairs)) (pos-mul COEFFICIENT_SCALE (sum_by (credited book leaf) pairs)) (omega arith)
   where
-    joined : (least exact above below : ℤ) (needs weighed more less : ℕ) → least ≤ℤ exact → exact ≡ above -ℤ below → above ≡ pos more → below ≡ pos less
-        → needs + more ≤ weighed + less → (pos needs +ℤ least) ≤ℤ pos weighed
-    joined least exact above below needs weighed more less at_most is above_is below_is whole = omega (arith, ints)
+    joined : (least ends reduced exact above below : ℤ) (needs weighed more less : ℕ) → least ≤ℤ reduced → (ends +ℤ reduced) ≤ℤ exact → exact ≡ above -ℤ below → above ≡ pos more → below ≡ pos less
+        → needs + more ≤ weighed + less → (pos needs +ℤ ends +ℤ least) ≤ℤ pos weighed
+    joined least ends reduced exact above below needs weighed more less at_most credited_most is above_is below_is whole = omega (arith, ints)
 
 -- ---- what the limit takes, and what it is credited
 -- without a weight it takes nothing

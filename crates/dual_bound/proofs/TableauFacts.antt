@@ -13,12 +13,14 @@ use Rattle.offer_book.specs.declared.coefficients.TheConstants.{COEFFICIENT_SCAL
 use Rattle.offer_book.specs.declared.line.Line.{Line}
 use Rattle.offer_book.specs.declared.line.LineKind.TheVariants.{Cash}
 use Rattle.dual_bound.specs.Columns.{Extends, IsColumn, IsLightWorth, IsOther, IsPlace, IsRun, IsRunOf, IsSmallColumn, IsTableau, is_other, is_regular, paying, worth_at, worth_between, worth_on, worth_together}
-use Rattle.dual_bound.specs.LeafBound.{bound_of, least_within, priced_needs, signed_sum}
+use Rattle.dual_bound.specs.LeafBound.{bound_of, least_within, priced_needs, signed_sum, weighed_ends}
 use Rattle.proof_tree.specs.Tree.{IsLeaf}
 use Rattle.dual_bound.specs.declared.column.Column.{Column}
 use Rattle.dual_bound.specs.declared.column.OtherPayment.{OtherPayment}
 use Rattle.proof_tree.specs.declared.prices.TheConstants.{PRICE_SCALE}
+use Rattle.node_ranges.specs.Ranges.{RangesContents, with_interval}
 use Rattle.proof_tree.specs.declared.interval.Interval.{Interval}
+use Rattle.proof_tree.specs.declared.tree.Part.TheVariants as part
 use Rattle.dual_bound.specs.declared.series.Run.{Run}
 use Rattle.dual_bound.specs.declared.tableau.Tableau.{Tableau}
 use Rattle.proof_tree.specs.declared.tree.Leaf.{Leaf}
@@ -197,18 +199,18 @@ sum-set f (line ∷ lines) (own ∷ ranges) (suc place) interval d e few same =
     joined first sum old new rest h = omega (arith, ints)
 
 -- the bound, where one interval is put
-pub bound-set : (n : ℕ) (book : BookContents) (leaf : Leaf) (ranges : List Interval) (place : ℕ) (interval : Interval) (d : Line) (e : Interval) → place < length book.lines
-    → length book.lines ≡ length ranges
-    → (bound_of n book ranges leaf -ℤ least_within n book leaf (get_or book.lines place d) (get_or ranges place e)) +ℤ least_within n book leaf (get_or book.lines place d) interval
-    ≡ bound_of n book (set ranges place interval) leaf
+pub bound-set : (n : ℕ) (book : BookContents) (leaf : Leaf) (ranges : RangesContents) (place : ℕ) (interval : Interval) (d : Line) (e : Interval) → place < length book.lines
+    → length book.lines ≡ length ranges.lines
+    → (bound_of n book ranges leaf -ℤ least_within n book leaf (get_or book.lines place d) (get_or ranges.lines place e)) +ℤ least_within n book leaf (get_or book.lines place d) interval
+    ≡ bound_of n book (with_interval ranges (part.Line place) interval) leaf
 unfolding bound_of
 bound-set n book leaf ranges place interval d e few same =
-    joined (pos (COEFFICIENT_SCALE * priced_needs book.needs leaf.prices))
-    (signed_sum (λ (p : Line × Interval). least_within n book leaf p.0 p.1) (zip book.lines ranges))
-    (least_within n book leaf (get_or book.lines place d) (get_or ranges place e))
+    joined (pos (COEFFICIENT_SCALE * priced_needs book.needs leaf.prices) +ℤ weighed_ends book ranges.sums leaf.weights)
+    (signed_sum (λ (p : Line × Interval). least_within n book leaf p.0 p.1) (zip book.lines ranges.lines))
+    (least_within n book leaf (get_or book.lines place d) (get_or ranges.lines place e))
     (least_within n book leaf (get_or book.lines place d) interval)
-    (signed_sum (λ (p : Line × Interval). least_within n book leaf p.0 p.1) (zip book.lines (set ranges place interval)))
-    (sum-set (λ (p : Line × Interval). least_within n book leaf p.0 p.1) book.lines ranges place interval d e few same)
+    (signed_sum (λ (p : Line × Interval). least_within n book leaf p.0 p.1) (zip book.lines (set ranges.lines place interval)))
+    (sum-set (λ (p : Line × Interval). least_within n book leaf p.0 p.1) book.lines ranges.lines place interval d e few same)
   where
     joined : (first sum old new rest : ℤ) → (sum -ℤ old) +ℤ new ≡ rest → ((first +ℤ sum) -ℤ old) +ℤ new ≡ first +ℤ rest
     joined first sum old new rest h = omega (arith, ints)

@@ -11,16 +11,14 @@ use Rattle.cash_table.proofs.PointFacts.{excluded_tells, no_rival}
 use Rattle.cash_table.specs.Points.{is_excluded}
 use Rattle.dual_bound.specs.Closing.{is_closed_leaf, is_closed_point, is_weak}
 use Rattle.node_ranges.proofs.RangeLaws.{lows-held, only-one, root_holds_all, root_is_tight, splits_cover}
-use Rattle.node_ranges.proofs.RangeFacts.{sides-tight}
+use Rattle.node_ranges.proofs.RangeFacts.{part-tight}
 use Rattle.dual_bound.proofs.Signed.{pos-mul, scale-le}
 use Rattle.dual_bound.proofs.Soundness.{bounds-all, bounds-rivals}
 use Rattle.dual_bound.specs.Duality.{CostsAtLeast}
 use Rattle.dual_bound.specs.LeafBound.{bound_of}
-use Rattle.node_ranges.specs.Ranges.{AreTight, Hold, is_proper, is_single, narrowed, root_of}
+use Rattle.node_ranges.specs.Ranges.{AreTight, Hold, IsWithin, RangesContents, is_proper, is_single, narrowed, root_of}
 use Rattle.node_ranges.specs.Claims.{Claim, bears_out_by, costs_enough, is_bad_split, low_ends, placed, placed_nodes}
 use Rattle.proof_tree.specs.Tree.{AreTrees, IsLeaf, IsNode, IsPriced}
-use Rattle.proof_tree.specs.declared.prices.TheConstants.{PRICE_SCALE}
-use Rattle.proof_tree.specs.declared.interval.Interval.{Interval}
 use Rattle.proof_tree.specs.declared.tree.Leaf.{Leaf}
 use Rattle.proof_tree.specs.declared.tree.TreeNode.{TreeNode}
 use Rattle.proof_tree.specs.declared.tree.TreeNode.TheVariants as node
@@ -28,7 +26,6 @@ use Rattle.offer_book.specs.Book.{BookContents, IsBook}
 use Rattle.offer_book.specs.Portfolio.{IsPermitted, Meets, cost}
 use Rattle.offer_book.specs.Rival.{IsRival}
 use Rattle.offer_book.specs.declared.coefficients.TheConstants.{COEFFICIENT_SCALE}
-use Rattle.offer_book.specs.declared.line.Line.{Line}
 
 -- a portfolio bears out a claim: it costs no less; without a claim there is none
 abbrev pub BearsOut : BookContents → Claim → List ℕ → Type 0
@@ -36,14 +33,14 @@ BearsOut book None plan = ⊥
 BearsOut book (Some least) plan = least ≤ℤ pos (cost book plan)
 
 -- some of the ranges that are waiting hold a portfolio
-abbrev HeldBy : List Line → List (List Interval) → List ℕ → Type 0
-HeldBy lines [] plan = ⊥
-HeldBy lines (ranges ∷ waiting) plan = Hold lines ranges plan ⊎ HeldBy lines waiting plan
+abbrev HeldBy : BookContents → List RangesContents → List ℕ → Type 0
+HeldBy book [] plan = ⊥
+HeldBy book (ranges ∷ waiting) plan = Hold book ranges plan ⊎ HeldBy book waiting plan
 
-abbrev pub IsGood : TreeNode × List Interval → Type 0
+abbrev pub IsGood : TreeNode × RangesContents → Type 0
 IsGood p = is_bad_split p ≡ false
 
-abbrev pub IsClosed : CaseContents → Claim → TreeNode × List Interval → Type 0
+abbrev pub IsClosed : CaseContents → Claim → TreeNode × RangesContents → Type 0
 IsClosed case claim p = is_weak case claim p ≡ false
 
 from-not : (t : Bool) → not t ≡ false → t ≡ true
@@ -61,34 +58,38 @@ either : (a b : Bool) → (a || b) ≡ true → (a ≡ true) ⊎ (b ≡ true)
 either true b e = inl refl
 either false b e = inr e
 
+-- what ranges hold lies within them
+hold-within : (book : BookContents) (ranges : RangesContents) (plan : List ℕ) → Hold book ranges plan → IsWithin book ranges plan
+hold-within book ranges plan hold = record { lines = hold.lines.within; sums = hold.sums }
+
 -- ---- what closed leaves and points say of a portfolio, for the nodes of a tree
 pub record Tells (case : CaseContents) (claim : Claim) (plan : List ℕ) (next : TreeNode) : Type 0 where
-  pub leaf : (ranges : List Interval) (leaf : Leaf) → next ≡ node.Closed leaf → IsLeaf (length case.book.needs) leaf → Hold case.book.lines ranges plan
+  pub leaf : (ranges : RangesContents) (leaf : Leaf) → next ≡ node.Closed leaf → IsLeaf (length case.book.needs) leaf → Hold case.book ranges plan
       → is_closed_leaf case claim ranges leaf ≡ true → BearsOut case.book claim plan
-  pub point : (ranges : List Interval) → next ≡ node.Point → AreTight case.book.lines ranges → Hold case.book.lines ranges plan
+  pub point : (ranges : RangesContents) → next ≡ node.Point → AreTight case.book ranges → Hold case.book ranges plan
       → is_closed_point case claim ranges ≡ true → BearsOut case.book claim plan
 
 -- a tree, walked in its order
-tree-bears_out : (case : CaseContents) (claim : Claim) (plan : List ℕ) (nodes : List TreeNode) (waiting : List (List Interval)) → AreTrees (length waiting) nodes
-    → All (IsNode (length case.book.needs)) nodes → All (Tells case claim plan) nodes → All (AreTight case.book.lines) waiting
-    → All IsGood (placed case.book.lines waiting nodes) → All (IsClosed case claim) (placed case.book.lines waiting nodes)
-    → HeldBy case.book.lines waiting plan → BearsOut case.book claim plan
+tree-bears_out : (case : CaseContents) (claim : Claim) (plan : List ℕ) (nodes : List TreeNode) (waiting : List RangesContents) → AreTrees (length waiting) nodes
+    → All (IsNode (length case.book.needs)) nodes → All (Tells case claim plan) nodes → All (AreTight case.book) waiting
+    → All IsGood (placed case.book waiting nodes) → All (IsClosed case claim) (placed case.book waiting nodes)
+    → HeldBy case.book waiting plan → BearsOut case.book claim plan
 tree-bears_out case claim plan nodes [] trees are tell tight good closed held = absurd held
 tree-bears_out case claim plan [] (ranges ∷ waiting) trees are tell tight good closed held = absurd trees
-tree-bears_out case claim plan (node.Split line at ∷ nodes) (ranges ∷ waiting) trees are tell tight good closed held =
-    let lines = case.book.lines in
-    let left = narrowed lines ranges line at false in
-    let right = narrowed lines ranges line at true in
-    let here = All-head (AreTight lines) ranges waiting tight in
-    let rest = All-tail (AreTight lines) ranges waiting tight in
-    let proper : IsTrue (is_proper ranges line at) = from-not (is_proper ranges line at) (All-head IsGood (node.Split line at, ranges) (placed lines (left ∷ right ∷ waiting) nodes) good) in
-    let covers = splits_cover lines ranges line at here proper plan in
-    let sides = All-cons (AreTight lines) left (right ∷ waiting) (sides-tight lines ranges line at false here proper)
-    (All-cons (AreTight lines) right waiting (sides-tight lines ranges line at true here proper) rest) in
+tree-bears_out case claim plan (node.Split split at ∷ nodes) (ranges ∷ waiting) trees are tell tight good closed held =
+    let book = case.book in
+    let left = narrowed book ranges split at false in
+    let right = narrowed book ranges split at true in
+    let here = All-head (AreTight book) ranges waiting tight in
+    let rest = All-tail (AreTight book) ranges waiting tight in
+    let proper : IsTrue (is_proper ranges split at) = from-not (is_proper ranges split at) (All-head IsGood (node.Split split at, ranges) (placed book (left ∷ right ∷ waiting) nodes) good) in
+    let covers = splits_cover book ranges split at here proper plan in
+    let sides = All-cons (AreTight book) left (right ∷ waiting) (part-tight book ranges split at false here proper)
+    (All-cons (AreTight book) right waiting (part-tight book ranges split at true here proper) rest) in
     tree-bears_out case claim plan nodes (left ∷ right ∷ waiting) trees
-    (All-tail (IsNode (length case.book.needs)) (node.Split line at) nodes are) (All-tail (Tells case claim plan) (node.Split line at) nodes tell) sides
-    (All-tail IsGood (node.Split line at, ranges) (placed lines (left ∷ right ∷ waiting) nodes) good)
-    (All-tail (IsClosed case claim) (node.Split line at, ranges) (placed lines (left ∷ right ∷ waiting) nodes) closed)
+    (All-tail (IsNode (length case.book.needs)) (node.Split split at) nodes are) (All-tail (Tells case claim plan) (node.Split split at) nodes tell) sides
+    (All-tail IsGood (node.Split split at, ranges) (placed book (left ∷ right ∷ waiting) nodes) good)
+    (All-tail (IsClosed case claim) (node.Split split at, ranges) (placed book (left ∷ right ∷ waiting) nodes) closed)
     (elim held [
       | inl hold ↦ elim (covers.one hold) [
         | inl first ↦ inl first
@@ -97,26 +98,26 @@ tree-bears_out case claim plan (node.Split line at ∷ nodes) (ranges ∷ waitin
       | inr later ↦ inr (inr later)
     ])
 tree-bears_out case claim plan (node.Point ∷ nodes) (ranges ∷ waiting) trees are tell tight good closed held =
-    let lines = case.book.lines in
-    let closed_here = from-not (is_closed_point case claim ranges) (All-head (IsClosed case claim) (node.Point, ranges) (placed lines waiting nodes) closed) in
+    let book = case.book in
+    let closed_here = from-not (is_closed_point case claim ranges) (All-head (IsClosed case claim) (node.Point, ranges) (placed book waiting nodes) closed) in
     elim held [
-      | inl hold ↦ (All-head (Tells case claim plan) node.Point nodes tell).point ranges refl (All-head (AreTight lines) ranges waiting tight) hold closed_here
+      | inl hold ↦ (All-head (Tells case claim plan) node.Point nodes tell).point ranges refl (All-head (AreTight book) ranges waiting tight) hold closed_here
       | inr later ↦ tree-bears_out case claim plan nodes waiting trees
-          (All-tail (IsNode (length case.book.needs)) node.Point nodes are) (All-tail (Tells case claim plan) node.Point nodes tell) (All-tail (AreTight lines) ranges waiting tight)
-          (All-tail IsGood (node.Point, ranges) (placed lines waiting nodes) good) (All-tail (IsClosed case claim) (node.Point, ranges) (placed lines waiting nodes) closed) later
+          (All-tail (IsNode (length case.book.needs)) node.Point nodes are) (All-tail (Tells case claim plan) node.Point nodes tell) (All-tail (AreTight book) ranges waiting tight)
+          (All-tail IsGood (node.Point, ranges) (placed book waiting nodes) good) (All-tail (IsClosed case claim) (node.Point, ranges) (placed book waiting nodes) closed) later
     ]
 tree-bears_out case claim plan (node.Closed leaf ∷ nodes) (ranges ∷ waiting) trees are tell tight good closed held =
-    let lines = case.book.lines in
-    let closed_here = from-not (is_closed_leaf case claim ranges leaf) (All-head (IsClosed case claim) (node.Closed leaf, ranges) (placed lines waiting nodes) closed) in
+    let book = case.book in
+    let closed_here = from-not (is_closed_leaf case claim ranges leaf) (All-head (IsClosed case claim) (node.Closed leaf, ranges) (placed book waiting nodes) closed) in
     elim held [
       | inl hold ↦ (All-head (Tells case claim plan) (node.Closed leaf) nodes tell).leaf ranges leaf refl (All-head (IsNode (length case.book.needs)) (node.Closed leaf) nodes are) hold closed_here
       | inr later ↦ tree-bears_out case claim plan nodes waiting trees
-          (All-tail (IsNode (length case.book.needs)) (node.Closed leaf) nodes are) (All-tail (Tells case claim plan) (node.Closed leaf) nodes tell) (All-tail (AreTight lines) ranges waiting tight)
-          (All-tail IsGood (node.Closed leaf, ranges) (placed lines waiting nodes) good) (All-tail (IsClosed case claim) (node.Closed leaf, ranges) (placed lines waiting nodes) closed) later
+          (All-tail (IsNode (length case.book.needs)) (node.Closed leaf) nodes are) (All-tail (Tells case claim plan) (node.Closed leaf) nodes tell) (All-tail (AreTight book) ranges waiting tight)
+          (All-tail IsGood (node.Closed leaf, ranges) (placed book waiting nodes) good) (All-tail (IsClosed case claim) (node.Closed leaf, ranges) (placed book waiting nodes) closed) later
     ]
 
 -- ---- a closed leaf, by what its bound bounds
-leaf-tells : (case : CaseContents) (claim : Claim) (plan : List ℕ) (ranges : List Interval) (leaf : Leaf)
+leaf-tells : (case : CaseContents) (claim : Claim) (plan : List ℕ) (ranges : RangesContents) (leaf : Leaf)
     → CostsAtLeast (bound_of (case.limit - 1) case.book ranges leaf) case.book leaf plan → is_closed_leaf case claim ranges leaf ≡ true → BearsOut case.book claim plan
 leaf-tells case claim plan ranges leaf costs closed = by leaf.rho (leaf.rho == 0) refl costs claim closed
   where
@@ -149,11 +150,11 @@ leaf-tells case claim plan ranges leaf costs closed = by leaf.rho (leaf.rho == 0
         equal_none n e = grind (arith, e)
 
 -- ---- a closed point: its ranges hold one portfolio
-point-tells : (case : CaseContents) (claim : Claim) (plan : List ℕ) (ranges : List Interval) → IsBook case.book → AreTight case.book.lines ranges → Hold case.book.lines ranges plan
+point-tells : (case : CaseContents) (claim : Claim) (plan : List ℕ) (ranges : RangesContents) → IsBook case.book → AreTight case.book ranges → Hold case.book ranges plan
     → (is_excluded case.book (case.limit - 1) plan ≡ true → ⊥) → is_closed_point case claim ranges ≡ true → BearsOut case.book claim plan
 point-tells case claim plan ranges limits tight hold included closed =
     let parts = both (is_single ranges) (is_excluded case.book (case.limit - 1) (low_ends ranges) || costs_enough case.book claim (low_ends ranges)) closed in
-    let same : low_ends ranges ≡ plan = only-one case.book.lines ranges parts.0 (low_ends ranges) plan (lows-held case.book.lines ranges tight) hold in
+    let same : low_ends ranges ≡ plan = only-one case.book.lines ranges.lines parts.0 (low_ends ranges) plan (lows-held case.book.lines ranges.lines tight.lines) hold.lines in
     elim (either (is_excluded case.book (case.limit - 1) (low_ends ranges)) (costs_enough case.book claim (low_ends ranges)) parts.1) [
       | inl excluded ↦ absurd (included (ap (is_excluded case.book (case.limit - 1)) (sym same) ∙ excluded))
       | inr enough ↦ by claim (ap (costs_enough case.book claim) (sym same) ∙ enough)
@@ -167,7 +168,7 @@ point-tells case claim plan ranges limits tight hold included closed =
 rival-told : (case : CaseContents) (claim : Claim) (rival : List ℕ) → IsBook case.book → IsRival case.limit case.book rival → (next : TreeNode) → Tells case claim rival next
 rival-told case claim rival limits is next = record {
   leaf = λ ranges leaf same well hold closed.
-      leaf-tells case claim rival ranges leaf (bounds-rivals case.limit case.book ranges leaf limits well rival is hold.within) closed;
+      leaf-tells case claim rival ranges leaf (bounds-rivals case.limit case.book ranges leaf limits well rival is (hold-within case.book ranges rival hold)) closed;
   point = λ ranges same tight hold closed. point-tells case claim rival ranges limits tight hold
       (λ excluded. no_rival case.limit case.book rival ((excluded_tells case.book (case.limit - 1) rival limits).0 excluded) is) closed;
 }
@@ -176,7 +177,7 @@ rival-told case claim rival limits is next = record {
 priced-told : (case : CaseContents) (claim : Claim) (plan : List ℕ) → IsBook case.book → IsPermitted case.book plan → Meets case.book plan → (next : TreeNode) → IsPriced next → Tells case claim plan next
 priced-told case claim plan limits permitted covered next priced = record {
   leaf = λ ranges leaf same well hold closed.
-      leaf-tells case claim plan ranges leaf (bounds-all (case.limit - 1) case.book ranges leaf limits well (subst IsPriced same priced) plan permitted covered hold.within) closed;
+      leaf-tells case claim plan ranges leaf (bounds-all (case.limit - 1) case.book ranges leaf limits well (subst IsPriced same priced) plan permitted covered (hold-within case.book ranges plan hold)) closed;
   point = λ ranges same tight hold closed. absurd (subst IsPriced same priced);
 }
 
@@ -186,10 +187,10 @@ pub rival-bears_out : (case : CaseContents) (claim : Claim) (nodes : List TreeNo
     → (rival : List ℕ) → IsRival case.limit case.book rival → BearsOut case.book claim rival
 rival-bears_out case claim nodes limits trees are good closed rival is =
     let placed_at = placed_nodes case.book nodes in
-    let root = root_of case.book.lines in
+    let root = root_of case.book in
     tree-bears_out case claim rival nodes (root ∷ []) trees are
     (λ k d few. rival-told case claim rival limits is _)
-    (All-cons (AreTight case.book.lines) root [] (root_is_tight case.book limits) (All-nil (AreTight case.book.lines)))
+    (All-cons (AreTight case.book) root [] (root_is_tight case.book limits) (All-nil (AreTight case.book)))
     (position_fails is_bad_split placed_at good) (position_fails (is_weak case claim) placed_at closed)
     (inl ((root_holds_all case.book rival).0 is.permitted))
 
@@ -198,9 +199,9 @@ pub priced-bears_out : (case : CaseContents) (claim : Claim) (nodes : List TreeN
     → (plan : List ℕ) → IsPermitted case.book plan → Meets case.book plan → BearsOut case.book claim plan
 priced-bears_out case claim nodes limits trees are priced good closed plan permitted covered =
     let placed_at = placed_nodes case.book nodes in
-    let root = root_of case.book.lines in
+    let root = root_of case.book in
     tree-bears_out case claim plan nodes (root ∷ []) trees are
     (All-weaker IsPriced (Tells case claim plan) (λ next is. priced-told case claim plan limits permitted covered next is) nodes priced)
-    (All-cons (AreTight case.book.lines) root [] (root_is_tight case.book limits) (All-nil (AreTight case.book.lines)))
+    (All-cons (AreTight case.book) root [] (root_is_tight case.book limits) (All-nil (AreTight case.book)))
     (position_fails is_bad_split placed_at good) (position_fails (is_weak case claim) placed_at closed)
     (inl ((root_holds_all case.book plan).0 permitted))

@@ -1,6 +1,6 @@
 -- Columns: what each line is in the linear program whose dual the bound is. Made once for a book and the powers of a yield,
 -- they hold each line's coefficients and what each payment day is priced by, so that a leaf is priced without a calendar.
-use Rattle.std.specs.Prelude.{◌≡◌, ℕ, zero, suc, ◌+◌, ◌-◌, ◌*◌, ◌/◌, ◌^◌, ◌<◌, ◌≤◌, ◌==◌, Bool, false, ◌&&◌, ◌||◌, not, List, All, length, map, filter, slice_index, slice_index_or, sum_by, ℤ, pos, ◌+ℤ◌, ◌-ℤ◌, ◌*ℤ◌, neg_ℤ, unsigned_abs, Option, IfSome, Some, None}
+use Rattle.std.specs.Prelude.{◌≡◌, ℕ, zero, suc, ◌+◌, ◌-◌, ◌*◌, ◌/◌, ◌^◌, ◌<◌, ◌≤◌, ◌==◌, Bool, false, ◌&&◌, ◌||◌, not, List, [], All, length, map, filter, slice_index, slice_index_or, sum_by, ℤ, pos, ◌+ℤ◌, ◌-ℤ◌, ◌*ℤ◌, neg_ℤ, unsigned_abs, Option, IfSome, Some, None}
 use Rattle.std.specs.List.{AllZip, Contains}
 use Rattle.escrow_units.specs.Flows.{index360_of}
 use Rattle.escrow_units.specs.Interest.{earned_of}
@@ -274,6 +274,7 @@ pub record IsLaid (dates : ℕ) (days : List PricedDay) (columns : List Column) 
 pub record IsTableau (book : BookContents) (tableau : Tableau) : Type 0 where
   pub limits : IsBook book
   pub leaf : IsLeaf (length book.needs) tableau.priced.leaf
+  pub unweighted : tableau.priced.leaf.weights ≡ []
   pub powers : All (λ priced. priced.power ≤ one) tableau.days.items
   pub columns : AllZip (IsColumn tableau.yield_units.0 book tableau.days.items) book.lines tableau.columns.items
   pub small : All IsSmallColumn tableau.columns.items

@@ -1,9 +1,9 @@
 -- Leasts: what each line of a book adds at least, kept from leaf to leaf until a price changes that counts for the line.
-use Rattle.std.specs.Prelude.{◌≡◌, ◌⊎◌, ℕ, ◌<◌, ◌≤◌, List, All, length, slice_index, slice_index_or}
+use Rattle.std.specs.Prelude.{◌≡◌, ◌⊎◌, ℕ, ◌*◌, ◌^◌, ◌<◌, ◌≤◌, List, All, length, slice_index, slice_index_or, ℤ, unsigned_abs}
 use Rattle.std.specs.List.{AllZip}
 use Rattle.offer_book.specs.Book.{BookContents}
 use Rattle.offer_book.specs.declared.line.Line.{Line}
-use Rattle.dual_bound.specs.LeafBound.{least_within}
+use Rattle.dual_bound.specs.LeafBound.{least_by}
 use Rattle.dual_bound.specs.declared.column.Column.{Column}
 use Rattle.dual_bound.specs.declared.column.OtherPayment.{OtherPayment}
 use Rattle.dual_bound.specs.declared.leasts.Least.{Least}
@@ -36,19 +36,20 @@ pub record AgreeInside (span : Span) (old new : Leaf) : Type 0 where
   pub limit : old.mu ≡ new.mu
   pub prices : (date : ℕ) → IsInside span date → slice_index old.prices date ≡ slice_index new.prices date
 
--- a span holds what prices a line: leaves that agree within it give the line the same
+-- a span holds what prices a line: leaves that agree within it give the line the same, whatever load its units are credited
 abbrev pub IsPricedBy : ℕ → BookContents → Line → Span → Type 0
 IsPricedBy n book line span =
     (old new : Leaf) → length old.prices ≡ length book.needs → length new.prices ≡ length book.needs → AgreeInside span old new
-    → (interval : Interval) → least_within n book old line interval ≡ least_within n book new line interval
+    → (own_load : ℤ) (interval : Interval) → least_by n book old line own_load interval ≡ least_by n book new line own_load interval
 
--- what a line was found to add at least is what it adds
+-- what a line was found to add at least by a load is what it adds
 abbrev pub IsRight : ℕ → BookContents → Leaf → Line → Least → Type 0
-IsRight n book leaf line own = own.least ≡ least_within n book leaf line own.interval
+IsRight n book leaf line own = own.least ≡ least_by n book leaf line own.unit_load own.interval
 
 -- it is unless a price of its span has changed
 pub record IsLeast (n : ℕ) (book : BookContents) (leaf : Leaf) (changed : Span) (line : Line) (own : Least) : Type 0 where
   pub start : own.span.first ≤ PAST_DATES
+  pub load : unsigned_abs own.unit_load ≤ 64 * 10 ^ 29
   pub priced : IsPricedBy n book line own.span
   pub right : AreApart own.span changed → IsRight n book leaf line own
 

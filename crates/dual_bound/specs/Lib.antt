@@ -15,4 +15,5 @@ pub mod Columns
 pub mod Duality
 pub mod LeafBound
 pub mod Leasts
+pub mod Loads
 pub mod Rooms

@@ -395,9 +395,9 @@ impl Column {
         paid_in_all(paid, self.others_paid(rate, amount, worths))
     }
 
-    /// The reduced cost of units of the line, scaled, where a cent that it costs counts so much, and its regular days are worth so
+    /// What units of the line cost less what they pay, scaled, where a cent that it costs counts so much, and its regular days are worth so
     /// much together: exactly.
-    pub(crate) fn reduced_cost(
+    pub(crate) fn priced_cost(
         &self,
         line: &Line,
         own: i128,

@@ -1,18 +1,19 @@
 //! The linear program of a book, by its columns.
-ghost use Rattle.std.specs.Prelude.{◌≡◌, ◌*◌, ◌^◌, ◌<◌, ◌≤◌, ℕ, IfOk, length, slice_index_or, slice_set, unsigned_abs};
-ghost use Rattle.std.specs.List.{AllZip};
+ghost use Rattle.std.specs.Prelude.{◌≡◌, ◌*◌, ◌^◌, ◌<◌, ◌≤◌, ◌+ℤ◌, ◌-ℤ◌, ℕ, IfOk, length, slice_index_or, unsigned_abs};
 ghost use Rattle.fixed_powers.specs.DiscountPowers.{IsLowTable, PowerTable};
 ghost use Rattle.offer_book.specs.Portfolio.{IsPermitted};
 ghost use Rattle.offer_book.specs.declared.line.Line.{Line};
 ghost use Rattle.cash_table.specs.First.{first_short_of};
 ghost use Rattle.cash_table.specs.Points.{plan_yield as plan_yield_of};
 ghost use Rattle.dual_bound.specs.LeafBound.{bound_of, form_of, least_within};
-ghost use Rattle.node_ranges.specs.Ranges.{HasRoomFor};
+ghost use Rattle.node_ranges.specs.Ranges.{AreOf, with_interval};
+ghost use Rattle.proof_tree.specs.declared.tree.Part.TheVariants as part;
 ghost use Rattle.proof_tree.specs.Tree.{IsLeaf, with_price};
 
 use crate::changes::ChangedDates;
 use crate::form::Form;
 use crate::leasts::Leasts;
+use crate::loads::Loads;
 use crate::rooms::Rooms;
 use crate::tableau::Tableau;
 use cash_table::{Plan, Schedules, Standing, plan_standing};
@@ -24,6 +25,16 @@ use proof_tree::{Interval, Leaf};
 use std::alloc::Global;
 use std::marker::Model;
 
+// A sum, where one of its parts is exchanged for another.
+fn exchanged(sum: i128, old: i128, new: i128) -> i128
+    requires sum { unsigned_abs sum < 10 ^ 37 }
+    requires old { unsigned_abs old ≤ 71 * 10 ^ 33 }
+    requires new { unsigned_abs new ≤ 71 * 10 ^ 33 }
+    ensures { result ≡ (sum -ℤ old) +ℤ new }
+{
+    sum - old + new
+}
+
 /// The columns of the lines of a book, made once for it and the powers of a yield, and priced at a leaf. A column is what a
 /// line is in the linear program: what a unit costs, and what it pays on which days.
 ///
@@ -34,6 +45,7 @@ pub struct Columns<'a> {
     book: &'a Book,
     schedules: Schedules,
     tableau: Tableau,
+    loads: Loads,
     leasts: Leasts,
     rooms: Rooms,
     changed: ChangedDates,
@@ -43,13 +55,14 @@ impl<'a> Model for Columns<'a> {
     ghost use Rattle.std.specs.Prelude.{◌≡◌};
     ghost use Rattle.cash_table.specs.Schedules.{schedules_of};
     ghost use Rattle.dual_bound.specs.Columns.{ColumnsContents};
+    ghost use Rattle.dual_bound.specs.Loads.{AreLoads, with_weights};
     ghost use Rattle.dual_bound.specs.Rooms.{AreColumns};
 
     ghost Value = { ColumnsContents };
 
-    ghost view = { λ c. record { book = c.book.now; yield_units = c.tableau.yield_units.0; leaf = c.tableau.priced.leaf } };
+    ghost view = { λ c. record { book = c.book.now; yield_units = c.tableau.yield_units.0; leaf = with_weights c.tableau.priced.leaf c.loads.weights.items } };
 
-    ghost invariant = { λ c. AreColumns c.book.now c.tableau c.leasts c.rooms c.changed × (c.schedules ≡ schedules_of c.book.now) };
+    ghost invariant = { λ c. AreColumns c.book.now c.tableau c.leasts c.rooms c.changed × AreLoads c.book.now c.loads × (c.schedules ≡ schedules_of c.book.now) };
 }
 
 impl<'a> Columns<'a> {
@@ -71,6 +84,7 @@ impl<'a> Columns<'a> {
             book,
             schedules,
             tableau,
+            loads: Loads::make(alloc, book)?,
             leasts,
             rooms: Rooms::none(alloc),
             changed: ChangedDates::make(alloc, book.need_count())?,
@@ -96,6 +110,7 @@ impl<'a> Columns<'a> {
         requires { IsLeaf (length self.old.book.needs) leaf.now }
         ensures { self.new ≡ record { book = self.old.book; yield_units = self.old.yield_units; leaf = leaf.now } }
     {
+        self.loads.take(self.book, leaf.weights.as_slice());
         let few = self.changed.take(
             self.tableau.priced.leaf.prices.as_slice(),
             leaf.prices.as_slice(),
@@ -129,7 +144,9 @@ impl<'a> Columns<'a> {
         ensures slope { (d : Line) (units : ℕ) → units ≤ (slice_index_or self.now.book.lines line d).most → unsigned_abs result.slope * units ≤ 7 * 10 ^ 34 }
         ensures slack { result.slack ≤ 10 ^ 23 }
     {
-        self.tableau.form(self.book, line)
+        self.tableau
+            .form(self.book, line)
+            .credited(self.loads.unit(self.book, line))
     }
 
     /// The form of a line, counted from 0, at the prices of a leaf that keeps its limits, with one price for each need date.
@@ -152,7 +169,8 @@ impl<'a> Columns<'a> {
         ensures value { (d : Line) → result ≡ least_within self.now.yield_units self.now.book self.now.leaf (slice_index_or self.now.book.lines line d) interval }
         ensures size { unsigned_abs result ≤ 71 * 10 ^ 33 }
     {
-        self.tableau.least(self.book, line, interval)
+        let unit_load = self.loads.unit(self.book, line);
+        self.tableau.least(self.book, line, unit_load, interval)
     }
 
     /// The lower bound of a leaf over ranges, scaled, as [`bound`](crate::bound) gives it by the powers of the same yield: the
@@ -160,13 +178,14 @@ impl<'a> Columns<'a> {
     /// whose high end is at most the line's most. It lies between -10^37 and 10^37.
     pub fn bound(&mut self, ranges: &Ranges, leaf: &Leaf) -> i128
         requires leaf { IsLeaf (length self.old.book.needs) leaf.now }
-        requires ranges { AllZip HasRoomFor self.old.book.lines ranges.now }
+        requires ranges { AreOf self.old.book ranges.now }
         ensures columns { self.new ≡ record { book = self.old.book; yield_units = self.old.yield_units; leaf = leaf.now } }
         ensures value { result ≡ bound_of self.old.yield_units self.old.book ranges.now leaf.now }
         ensures size { unsigned_abs result < 10 ^ 37 }
     {
         self.price(leaf);
-        self.leasts.bound(self.book, &self.tableau, ranges)
+        self.leasts
+            .bound(self.book, &self.tableau, &self.loads, ranges)
     }
 
     /// Takes rooms for so many leaves besides, as far as there is memory and they take no more than 10 MB. Each keeps what is known
@@ -182,7 +201,7 @@ impl<'a> Columns<'a> {
     /// takes its place.
     pub fn bound_near(&mut self, room: usize, ranges: &Ranges, leaf: &Leaf) -> i128
         requires leaf { IsLeaf (length self.old.book.needs) leaf.now }
-        requires ranges { AllZip HasRoomFor self.old.book.lines ranges.now }
+        requires ranges { AreOf self.old.book ranges.now }
         ensures columns { self.new ≡ record { book = self.old.book; yield_units = self.old.yield_units; leaf = leaf.now } }
         ensures value { result ≡ bound_of self.old.yield_units self.old.book ranges.now leaf.now }
         ensures size { unsigned_abs result < 10 ^ 37 }
@@ -195,14 +214,17 @@ impl<'a> Columns<'a> {
     /// are, it changes by what that line adds alone. The line is counted from 0, and the interval's high end is at most its
     /// most.
     pub fn bound_with(&self, bound: i128, ranges: &Ranges, line: u16, interval: Interval) -> i128
-        requires ranges { AllZip HasRoomFor self.now.book.lines ranges.now }
+        requires ranges { AreOf self.now.book ranges.now }
         requires bound { bound ≡ bound_of self.now.yield_units self.now.book ranges.now self.now.leaf }
         requires line { line < length self.now.book.lines }
         requires ordered { interval.low ≤ interval.high }
         requires high { (d : Line) → interval.high ≤ (slice_index_or self.now.book.lines line d).most }
-        ensures value { result ≡ bound_of self.now.yield_units self.now.book (slice_set ranges.now line interval) self.now.leaf }
+        ensures value { result ≡ bound_of self.now.yield_units self.now.book (with_interval ranges.now (part.Line line) interval) self.now.leaf }
     {
-        self.tableau
-            .bound_with(self.book, bound, ranges, line, interval)
+        let unit_load = self.loads.unit(self.book, line);
+        let known = ranges.intervals()[usize::from(line)];
+        let old = self.tableau.least(self.book, line, unit_load, known);
+        let new = self.tableau.least(self.book, line, unit_load, interval);
+        exchanged(bound, old, new)
     }
 }

@@ -1,6 +1,6 @@
 //! Affine forms of a number of units.
 ghost use Rattle.std.specs.Prelude.{◌≡◌, ◌*◌, ◌*ℤ◌, ◌^◌, ◌≤◌, pos, unsigned_abs};
-ghost use Rattle.dual_bound.specs.LeafBound.{form_at, least_side as least_side_of};
+ghost use Rattle.dual_bound.specs.LeafBound.{credited as credited_form, form_at, least_of_form, least_side as least_side_of};
 
 use offer_book::{Line, PayCoefficients};
 use proof_tree::Interval;
@@ -91,6 +91,18 @@ impl Form {
         }
     }
 
+    /// The form, where each unit is credited a load: at most 64 * 10^29. The slope is at most 10^33.
+    pub(crate) fn credited(self, unit_load: i128) -> Form
+        requires slope { unsigned_abs self.slope ≤ 10 ^ 33 }
+        requires load { unsigned_abs unit_load ≤ 64 * 10 ^ 29 }
+        ensures { result ≡ credited_form self unit_load }
+    {
+        Form {
+            slope: self.slope - unit_load,
+            slack: self.slack,
+        }
+    }
+
     /// The form at a number of units. What the units add is at most 7 * 10^34, and the slack at most 10^24.
     pub fn at(&self, units: u64) -> i128
         requires slope { unsigned_abs self.now.slope * units ≤ 7 * 10 ^ 34 }
@@ -99,6 +111,7 @@ impl Form {
     {
         self.slope * i128::from(units) - self.slack as i128
     }
+
     /// The least that a line can add within an interval of more than one number, from the line's form: at its ends, and where
     /// it holds 0 at 0 and at the least purchase. It is two products.
     pub fn least_within(&self, line: &Line, interval: Interval) -> i128
@@ -107,7 +120,8 @@ impl Form {
         requires high { unsigned_abs self.now.slope * interval.high ≤ 7 * 10 ^ 34 }
         requires least { unsigned_abs self.now.slope * line.now.least ≤ 7 * 10 ^ 34 }
         requires slack { self.now.slack ≤ 10 ^ 24 }
-        ensures { (n : ℕ) (book : BookContents) (leaf : Leaf) → self.now ≡ form_of n book leaf line.now → result ≡ least_within_of n book leaf line.now interval }
+        ensures value { result ≡ least_of_form self.now line.now interval }
+        ensures of_line { (n : ℕ) (book : BookContents) (leaf : Leaf) → self.now ≡ form_of n book leaf line.now → result ≡ least_within_of n book leaf line.now interval }
     {
         let at_high = self.at(interval.high);
         if interval.low == 0 {

@@ -1,22 +1,23 @@
 //! The lower bound of a leaf, one line after another.
-ghost use Rattle.std.specs.List.{AllZip};
-ghost use Rattle.std.specs.Prelude.{All, ◌≡◌, ◌*◌, ◌^◌, ◌<◌, ◌≤◌, ◌≤ℤ◌, ◌*ℤ◌, ◌-ℤ◌, ℕ, ℤ, pos, length, unsigned_abs};
+ghost use Rattle.std.specs.Prelude.{All, ◌≡◌, ◌*◌, ◌^◌, ◌<◌, ◌≤◌, ◌≤ℤ◌, ◌*ℤ◌, ◌+ℤ◌, ◌-ℤ◌, ℕ, ℤ, pos, length, unsigned_abs};
 ghost use Rattle.escrow_units.specs.Calendar.{years_after_of};
 ghost use Rattle.escrow_units.specs.Flows.{Rise, total};
 ghost use Rattle.escrow_units.specs.SlgsTerms.{IsSettlement};
 ghost use Rattle.fixed_powers.specs.DiscountPowers.{IsLowTable, PowerTable};
 ghost use Rattle.offer_book.specs.Book.{BookContents, IsBook, IsLine};
-ghost use Rattle.dual_bound.specs.LeafBound.{bound_of, cost_worth as cost_worth_of, form_of, least_within, limit_price as limit_price_of, limit_multiplier as limit_multiplier_of, paid_worth as paid_worth_of, priced_needs as priced_needs_of, price_on as price_on_date, reduced_cost as reduced_cost_of};
-ghost use Rattle.node_ranges.specs.Ranges.{HasRoomFor};
+ghost use Rattle.dual_bound.specs.LeafBound.{bound_of, cost_worth as cost_worth_of, least_within, limit_price as limit_price_of, limit_multiplier as limit_multiplier_of, paid_worth as paid_worth_of, priced_needs as priced_needs_of, price_on as price_on_date, priced_cost as priced_cost_of, priced_form as priced_form_of, unit_load as unit_load_of};
+ghost use Rattle.offer_book.specs.Sums.{coarse_step as coarse_step_of};
+ghost use Rattle.node_ranges.specs.Ranges.{AreOf};
 ghost use Rattle.proof_tree.specs.Tree.{IsLeaf};
 
 use crate::form::Form;
+use crate::loads::{load, scaled_load, weighed_ends};
 use crate::worth::price_at;
 use cash_table::place_of;
 use escrow_units::{AMOUNT_LIMIT, Cents, Day, Flow, index360};
 use fixed_powers::{ONE, Powers};
 use node_ranges::Ranges;
-use offer_book::{Book, COEFFICIENT_SCALE, Line, LineKind};
+use offer_book::{Book, COEFFICIENT_SCALE, Line, LineKind, coarse_step, line_depth};
 use proof_tree::{Interval, Leaf, PRICE_SCALE};
 
 /// The price of a day, by binary search: that of the first need date on or after it, and 0 where there is none. There are as
@@ -76,14 +77,14 @@ fn paid_worth(book: &Book, powers: &Powers, leaf: &Leaf, kind: LineKind, day: Da
     i128::from(price) - i128::from(limit)
 }
 
-// The form of a line.
-#[tactic(auto, unfolding(crate::specs::LeafBound::form_of))]
-fn form(book: &Book, powers: &Powers, leaf: &Leaf, line: &Line) -> Form
+// The form of a line without sums.
+#[tactic(auto, unfolding(crate::specs::LeafBound::priced_form))]
+fn priced_form(book: &Book, powers: &Powers, leaf: &Leaf, line: &Line) -> Form
     requires limits { IsBook book.now }
     requires leaf { IsLeaf (length book.now.needs) leaf.now }
     requires powers { IsLowTable powers.now }
     requires line { IsLine book.now.days line.now }
-    ensures { result ≡ form_of powers.now.yield_units book.now leaf.now line.now }
+    ensures { result ≡ priced_form_of powers.now.yield_units book.now leaf.now line.now }
 {
     let coefficients = line.coefficients(book.payment_days());
     let mut form = Form::of_amount(
@@ -118,15 +119,15 @@ pub(crate) fn scaled_difference(cost: i128, paid: i128) -> i128
     i128::from(COEFFICIENT_SCALE) * (cost - paid)
 }
 
-// The reduced cost of units of a line, scaled.
-#[tactic(auto, unfolding(crate::specs::LeafBound::reduced_cost))]
-fn reduced_cost(book: &Book, powers: &Powers, leaf: &Leaf, line: &Line, units: u64) -> i128
+// What units of a line cost less what their payments are worth, scaled.
+#[tactic(auto, unfolding(crate::specs::LeafBound::priced_cost))]
+fn priced_cost(book: &Book, powers: &Powers, leaf: &Leaf, line: &Line, units: u64) -> i128
     requires limits { IsBook book.now }
     requires leaf { IsLeaf (length book.now.needs) leaf.now }
     requires powers { IsLowTable powers.now }
     requires line { IsLine book.now.days line.now }
     requires units { units ≤ line.now.most }
-    ensures { result ≡ reduced_cost_of powers.now.yield_units book.now leaf.now line.now units }
+    ensures { result ≡ priced_cost_of powers.now.yield_units book.now leaf.now line.now units }
 {
     let mut paid = 0i128;
     for flow in line.payments(book.payment_days(), units).as_slice() {
@@ -137,21 +138,57 @@ fn reduced_cost(book: &Book, powers: &Powers, leaf: &Leaf, line: &Line, units: u
     scaled_difference(cost, paid)
 }
 
-// The least that a line can add within an interval.
-fn least(book: &Book, powers: &Powers, leaf: &Leaf, line: &Line, interval: Interval) -> i128
+// What the weights of sums credit a unit of a line, scaled.
+fn unit_load(book: &Book, coarse: u64, leaf: &Leaf, line: &Line) -> i128
+    requires limits { IsBook book.now }
+    requires coarse { coarse ≡ coarse_step_of book.now }
+    requires leaf { IsLeaf (length book.now.needs) leaf.now }
+    requires line { IsLine book.now.days line.now }
+    ensures value { result ≡ unit_load_of book.now leaf.now.weights line.now }
+    ensures small { unsigned_abs result ≤ 64 * 10 ^ 29 }
+{
+    let depth = line_depth(book, coarse, line);
+    scaled_load(
+        coarse,
+        load(leaf.weights.as_slice(), book.need_count(), depth),
+    )
+}
+
+/// A cost of units that are each credited a load, both scaled.
+pub(crate) fn credited_cost(cost: i128, unit_load: i128, units: u64) -> i128
+    requires cost { unsigned_abs cost ≤ 71 * 10 ^ 33 }
+    requires load { unsigned_abs unit_load * units ≤ 10 ^ 34 }
+    ensures { result ≡ cost -ℤ unit_load *ℤ pos units }
+{
+    cost - unit_load * i128::from(units)
+}
+
+// The least that a line can add within an interval, where each unit is credited a load.
+fn least(
+    book: &Book,
+    powers: &Powers,
+    leaf: &Leaf,
+    line: &Line,
+    unit_load: i128,
+    interval: Interval,
+) -> i128
     requires limits { IsBook book.now }
     requires leaf { IsLeaf (length book.now.needs) leaf.now }
     requires powers { IsLowTable powers.now }
     requires line { IsLine book.now.days line.now }
     requires ordered { interval.low ≤ interval.high }
     requires high { interval.high ≤ line.now.most }
+    requires load { unit_load ≡ unit_load_of book.now leaf.now.weights line.now }
     ensures value { result ≡ least_within powers.now.yield_units book.now leaf.now line.now interval }
     ensures size { unsigned_abs result ≤ 71 * 10 ^ 33 }
 {
     if interval.low == interval.high {
-        return reduced_cost(book, powers, leaf, line, interval.low);
+        let cost = priced_cost(book, powers, leaf, line, interval.low);
+        return credited_cost(cost, unit_load, interval.low);
     }
-    form(book, powers, leaf, line).least_within(line, interval)
+    priced_form(book, powers, leaf, line)
+        .credited(unit_load)
+        .least_within(line, interval)
 }
 
 /// What needs are worth at a leaf's prices, in cents over [`PRICE_SCALE`](crate::PRICE_SCALE): the sum of each need, in cents,
@@ -171,8 +208,18 @@ pub fn priced_needs(needs: &[Flow], prices: &[u64]) -> u128
     worth
 }
 
+/// What a bound has before its lines: what the needs are worth, scaled, and the ends of the sums that are weighed.
+pub(crate) fn needs_and_ends(needs: u128, ends: i128) -> i128
+    requires needs { needs ≤ 2 * 10 ^ 25 }
+    requires ends { unsigned_abs ends ≤ 64 * (512 * 10 ^ 32) }
+    ensures value { result ≡ pos (COEFFICIENT_SCALE * needs) +ℤ ends }
+    ensures small { unsigned_abs result ≤ 33 * 10 ^ 35 }
+{
+    COEFFICIENT_SCALE as i128 * needs as i128 + ends
+}
+
 /// The lower bound of a leaf over ranges, at the yield of the powers, scaled: what the needs are worth at its prices, and the
-/// least that each line can add within its interval. [`bound_laws`](crate::bound_laws) says what it bounds.
+/// least that each line can add within its interval, with the ends of the sums that it weighs. [`bound_laws`](crate::bound_laws) says what it bounds.
 ///
 /// The leaf keeps its limits, with one price for each need date; the ranges have an interval for each line of the book,
 /// whose high end is at most the line's most; and the powers are of the low side, of 0 to 14,400 index days. The bound is in
@@ -183,16 +230,21 @@ pub fn priced_needs(needs: &[Flow], prices: &[u64]) -> u128
 pub fn bound(book: &Book, powers: &Powers, ranges: &Ranges, leaf: &Leaf) -> i128
     requires leaf { IsLeaf (length book.now.needs) leaf.now }
     requires powers { IsLowTable powers.now }
-    requires ranges { AllZip HasRoomFor book.now.lines ranges.now }
+    requires ranges { AreOf book.now ranges.now }
     ensures value { result ≡ bound_of powers.now.yield_units book.now ranges.now leaf.now }
     ensures size { unsigned_abs result < 10 ^ 37 }
 {
     let lines = book.lines();
     let intervals = ranges.intervals();
-    let mut bound = COEFFICIENT_SCALE as i128
-        * priced_needs(book.needs(), leaf.prices.as_slice()) as i128;
+    let coarse = coarse_step(book);
+    let mut bound = needs_and_ends(
+        priced_needs(book.needs(), leaf.prices.as_slice()),
+        weighed_ends(book, coarse, ranges.sums(), leaf.weights.as_slice()),
+    );
     for place in 0..lines.len() {
-        bound += least(book, powers, leaf, &lines[place], intervals[place]);
+        let line = &lines[place];
+        let unit_load = unit_load(book, coarse, leaf, line);
+        bound += least(book, powers, leaf, line, unit_load, intervals[place]);
     }
     bound
 }

@@ -1,13 +1,13 @@
 //! What each line of a book adds at least, kept from leaf to leaf.
 ghost use Rattle.std.specs.Prelude.{All, ◌≡◌, ◌⊎◌, ◌+◌, ◌*◌, ◌^◌, ◌<◌, ◌≤◌, ℕ, IfOk, length, slice_index, slice_index_or, true, unsigned_abs};
-ghost use Rattle.std.specs.List.{AllZip};
 ghost use Rattle.offer_book.specs.Book.{BookContents};
 ghost use Rattle.offer_book.specs.declared.line.Line.{Line};
 ghost use Rattle.dual_bound.specs.Changes.{AreChangedDates};
 ghost use Rattle.dual_bound.specs.Columns.{IsTableau};
-ghost use Rattle.dual_bound.specs.LeafBound.{bound_of, least_within};
+ghost use Rattle.dual_bound.specs.LeafBound.{bound_of, least_by};
 ghost use Rattle.dual_bound.specs.Leasts.{AgreeInside, AreApart, AreLeasts, IsInside, IsLeast, IsPricedInside, IsRight, IsSpanOf};
-ghost use Rattle.node_ranges.specs.Ranges.{HasRoomFor};
+ghost use Rattle.dual_bound.specs.Loads.{AreLoads, IsLoad, with_weights};
+ghost use Rattle.node_ranges.specs.Ranges.{AreOf};
 ghost use Rattle.proof_tree.specs.Tree.{with_price};
 ghost use Rattle.dual_bound.specs.declared.column.OtherPayment.{OtherPayment};
 ghost use Rattle.dual_bound.specs.declared.leasts.Least.{Least as LeastOf};
@@ -15,11 +15,13 @@ ghost use Rattle.dual_bound.specs.declared.leasts.Span.{Span as SpanOf};
 ghost use Rattle.proof_tree.specs.declared.tree.Leaf.{Leaf as LeafOf};
 
 use crate::column::Column;
+use crate::leaf_bound::needs_and_ends;
+use crate::loads::Loads;
 use crate::tableau::Tableau;
 use crate::worth::PricedDay;
 use escrow_desk::NoMemory;
 use node_ranges::Ranges;
-use offer_book::{Book, COEFFICIENT_SCALE};
+use offer_book::Book;
 use proof_tree::{Interval, Leaf};
 use std::alloc::Global;
 
@@ -143,6 +145,8 @@ pub(crate) struct Least {
     pub span: Span,
     /// The interval.
     pub interval: Interval,
+    /// What each unit was credited by weights of sums, scaled.
+    pub unit_load: i128,
     /// What the line adds at least, scaled.
     pub least: i128,
 }
@@ -155,11 +159,12 @@ impl Least {
         ensures { (d : Line) (changed : SpanOf) → IsLeast tableau.now.yield_units.0 book.now tableau.now.priced.leaf changed (slice_index_or book.now.lines line d) result }
     {
         let interval = Interval { low: 0, high: 0 };
-        let least = tableau.least(book, line, interval);
+        let least = tableau.least(book, line, 0, interval);
         let column = &tableau.columns[usize::from(line)];
         Least {
             span: span_of(column, tableau.days.as_slice()),
             interval,
+            unit_load: 0,
             least,
         }
     }
@@ -234,13 +239,21 @@ impl Leasts {
 
     // The least that a line can add within an interval: as it is known, else reckoned and kept.
     #[inline(always)]
-    fn least(&mut self, book: &Book, tableau: &Tableau, line: u16, interval: Interval) -> i128
+    fn least(
+        &mut self,
+        book: &Book,
+        tableau: &Tableau,
+        line: u16,
+        unit_load: i128,
+        interval: Interval,
+    ) -> i128
         requires tableau { IsTableau book.now tableau.now }
         requires leasts { AreLeasts tableau.now.yield_units.0 book.now tableau.now.priced.leaf self.old }
         requires line { line < length book.now.lines }
         requires ordered { interval.low ≤ interval.high }
         requires high { (d : Line) → interval.high ≤ (slice_index_or book.now.lines line d).most }
-        ensures value { (d : Line) → result ≡ least_within tableau.now.yield_units.0 book.now tableau.now.priced.leaf (slice_index_or book.now.lines line d) interval }
+        requires load { (d : Line) → IsLoad (slice_index_or book.now.lines line d) unit_load }
+        ensures value { (d : Line) → result ≡ least_by tableau.now.yield_units.0 book.now tableau.now.priced.leaf (slice_index_or book.now.lines line d) unit_load interval }
         ensures size { unsigned_abs result ≤ 71 * 10 ^ 33 }
         ensures leasts { AreLeasts tableau.now.yield_units.0 book.now tableau.now.priced.leaf self.new }
         ensures right { (d : Line) (e : LeastOf) → IsRight tableau.now.yield_units.0 book.now tableau.now.priced.leaf (slice_index_or book.now.lines line d) (slice_index_or self.new.lines.items line e) }
@@ -248,31 +261,44 @@ impl Leasts {
     {
         let place = usize::from(line);
         let known = self.lines[place];
-        if known.interval == interval && known.span.is_apart(self.changed) {
+        if known.span.is_apart(self.changed)
+            && known.unit_load == unit_load
+            && known.interval == interval
+        {
             return known.least;
         }
-        let least = tableau.least(book, line, interval);
+        let least = tableau.least(book, line, unit_load, interval);
         self.lines[place] = Least {
             span: known.span,
             interval,
+            unit_load,
             least,
         };
         least
     }
 
-    /// The lower bound of the leaf by which the days are priced. What a line adds is inlined into its loop.
-    pub(crate) fn bound(&mut self, book: &Book, tableau: &Tableau, ranges: &Ranges) -> i128
+    /// The lower bound of the leaf by which the days are priced, with the weights of sums of some loads. What a line adds is inlined
+    /// into its loop.
+    pub(crate) fn bound(
+        &mut self,
+        book: &Book,
+        tableau: &Tableau,
+        loads: &Loads,
+        ranges: &Ranges,
+    ) -> i128
         requires tableau { IsTableau book.now tableau.now }
         requires leasts { AreLeasts tableau.now.yield_units.0 book.now tableau.now.priced.leaf self.old }
-        requires ranges { AllZip HasRoomFor book.now.lines ranges.now }
-        ensures value { result ≡ bound_of tableau.now.yield_units.0 book.now ranges.now tableau.now.priced.leaf }
+        requires loads { AreLoads book.now loads.now }
+        requires ranges { AreOf book.now ranges.now }
+        ensures value { result ≡ bound_of tableau.now.yield_units.0 book.now ranges.now (with_weights tableau.now.priced.leaf loads.now.weights.items) }
         ensures size { unsigned_abs result < 10 ^ 37 }
         ensures leasts { AreLeasts tableau.now.yield_units.0 book.now tableau.now.priced.leaf self.new }
     {
         let intervals = ranges.intervals();
-        let mut bound = COEFFICIENT_SCALE as i128 * tableau.needs_worth(book) as i128;
+        let mut bound = needs_and_ends(tableau.needs_worth(book), loads.ends(book, ranges));
         for line in 0..book.line_count() {
-            bound += self.least(book, tableau, line, intervals[usize::from(line)]);
+            let unit_load = loads.unit(book, line);
+            bound += self.least(book, tableau, line, unit_load, intervals[usize::from(line)]);
         }
         self.changed = Span::none();
         bound

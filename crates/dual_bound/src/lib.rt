@@ -10,6 +10,7 @@ mod form;
 mod laws;
 mod leaf_bound;
 mod leasts;
+mod loads;
 mod rooms;
 mod series;
 mod sums;

@@ -9,15 +9,15 @@ ghost use Rattle.cash_table.specs.Schedules.{schedules_of};
 ghost use Rattle.dual_bound.specs.Changes.{AreChangedDates};
 ghost use Rattle.dual_bound.specs.Columns.{AreSums, IsColumn, IsDayTable, IsLightWorth, IsSmallColumn, IsStopWithin, IsTableau, worth_on, worth_together};
 ghost use Rattle.dual_bound.specs.declared.column.Column.{Column as ColumnOf};
-ghost use Rattle.dual_bound.specs.LeafBound.{bound_of, form_of, least_within, priced_needs as priced_needs_of, reduced_cost as reduced_cost_of};
-ghost use Rattle.node_ranges.specs.Ranges.{HasRoomFor};
+ghost use Rattle.dual_bound.specs.Loads.{IsLoad, unweighted};
+ghost use Rattle.dual_bound.specs.LeafBound.{least_by, priced_cost as priced_cost_of, priced_form, priced_needs as priced_needs_of};
 ghost use Rattle.proof_tree.specs.Tree.{IsLeaf, with_price};
 
 use crate::column::Column;
 use crate::date_days::{DateDays, days_by_date, price_dates};
 use crate::day_table::DayTable;
 use crate::form::Form;
-use crate::leaf_bound::{cost_worth, priced_needs};
+use crate::leaf_bound::{cost_worth, credited_cost, priced_needs};
 use crate::series::{Run, Series, Stop};
 use crate::sums::{mend_at, mend_dates, sum_of, sum_up};
 use crate::worth::{PricedDay, Worth, price_day, price_days, price_days_at};
@@ -25,7 +25,6 @@ use cash_table::Schedules;
 use escrow_desk::NoMemory;
 use escrow_units::{AMOUNT_LIMIT, Cents, Flow, YieldUnits};
 use fixed_powers::Powers;
-use node_ranges::Ranges;
 use offer_book::Book;
 use proof_tree::{Interval, Leaf, PRICE_SCALE, Prices};
 use std::alloc::Global;
@@ -109,16 +108,6 @@ fn sums_of(alloc: Global, stops: &[Stop], worths: &[Worth]) -> Result<Vec<Worth>
     let mut sums = vec![in alloc; nothing; stops.len()]?;
     sum_up(stops, worths, sums.as_mut_slice());
     Ok(sums)
-}
-
-// A sum, where one of its parts is exchanged for another.
-fn exchanged(sum: i128, old: i128, new: i128) -> i128
-    requires sum { unsigned_abs sum < 10 ^ 37 }
-    requires old { unsigned_abs old ≤ 71 * 10 ^ 33 }
-    requires new { unsigned_abs new ≤ 71 * 10 ^ 33 }
-    ensures { result ≡ (sum -ℤ old) +ℤ new }
-{
-    sum - old + new
 }
 
 // What needs are worth where the price of one of them changes.
@@ -223,7 +212,7 @@ impl Tableau {
         requires leaf { IsLeaf (length book.now.needs) leaf.now }
         requires tableau { IsTableau book.now self.old }
         ensures tableau { IsTableau book.now self.new }
-        ensures leaf { self.new.priced.leaf ≡ leaf.now }
+        ensures leaf { self.new.priced.leaf ≡ unweighted leaf.now }
         ensures frame { self.new ≡ record self.old { priced = self.new.priced } }
     {
         price_days(
@@ -249,7 +238,7 @@ impl Tableau {
         requires dates { AreChangedDates self.old.priced.leaf.prices leaf.now.prices dates.now }
         requires tableau { IsTableau book.now self.old }
         ensures tableau { IsTableau book.now self.new }
-        ensures leaf { self.new.priced.leaf ≡ leaf.now }
+        ensures leaf { self.new.priced.leaf ≡ unweighted leaf.now }
         ensures frame { self.new ≡ record self.old { priced = self.new.priced } }
     {
         price_dates(
@@ -283,7 +272,7 @@ impl Tableau {
         requires dates { AreChangedDates self.old.priced.leaf.prices leaf.now.prices dates.now }
         requires tableau { IsTableau book.now self.old }
         ensures tableau { IsTableau book.now self.new }
-        ensures leaf { self.new.priced.leaf ≡ leaf.now }
+        ensures leaf { self.new.priced.leaf ≡ unweighted leaf.now }
         ensures frame { self.new ≡ record self.old { priced = self.new.priced } }
     {
         if self.priced.leaf.mu == leaf.mu {
@@ -371,12 +360,12 @@ impl Tableau {
         }
     }
 
-    /// The form of a line, counted from 0.
+    /// The form of a line, counted from 0, without sums.
     #[inline(always)]
     pub(crate) fn form(&self, book: &Book, line: u16) -> Form
         requires tableau { IsTableau book.now self.now }
         requires line { line < length book.now.lines }
-        ensures { (d : Line) → result ≡ form_of self.now.yield_units.0 book.now self.now.priced.leaf (slice_index_or book.now.lines line d) }
+        ensures { (d : Line) → result ≡ priced_form self.now.yield_units.0 book.now self.now.priced.leaf (slice_index_or book.now.lines line d) }
     {
         let column = &self.columns[usize::from(line)];
         column.form(
@@ -386,16 +375,16 @@ impl Tableau {
         )
     }
 
-    // The reduced cost of units of a line, scaled: exactly.
-    fn reduced_cost(&self, book: &Book, line: u16, units: u64) -> i128
+    // What units of a line cost less what their payments are worth, scaled: exactly.
+    fn priced_cost(&self, book: &Book, line: u16, units: u64) -> i128
         requires tableau { IsTableau book.now self.now }
         requires line { line < length book.now.lines }
         requires units { (d : Line) → units ≤ (slice_index_or book.now.lines line d).most }
-        ensures { (d : Line) → result ≡ reduced_cost_of self.now.yield_units.0 book.now self.now.priced.leaf (slice_index_or book.now.lines line d) units }
+        ensures { (d : Line) → result ≡ priced_cost_of self.now.yield_units.0 book.now self.now.priced.leaf (slice_index_or book.now.lines line d) units }
     {
         let column = &self.columns[usize::from(line)];
         let own = book.line(line);
-        column.reduced_cost(
+        column.priced_cost(
             own,
             cost_worth(&self.priced.leaf, own.kind),
             self.regular_worth(book, line),
@@ -404,42 +393,23 @@ impl Tableau {
         )
     }
 
-    /// The least that a line can add within an interval.
+    /// The least that a line can add within an interval, where each unit is credited a load: it is that of a coarse line, or 0.
     #[inline(always)]
-    pub(crate) fn least(&self, book: &Book, line: u16, interval: Interval) -> i128
+    pub(crate) fn least(&self, book: &Book, line: u16, unit_load: i128, interval: Interval) -> i128
         requires tableau { IsTableau book.now self.now }
         requires line { line < length book.now.lines }
         requires ordered { interval.low ≤ interval.high }
         requires high { (d : Line) → interval.high ≤ (slice_index_or book.now.lines line d).most }
-        ensures value { (d : Line) → result ≡ least_within self.now.yield_units.0 book.now self.now.priced.leaf (slice_index_or book.now.lines line d) interval }
+        requires load { (d : Line) → IsLoad (slice_index_or book.now.lines line d) unit_load }
+        ensures value { (d : Line) → result ≡ least_by self.now.yield_units.0 book.now self.now.priced.leaf (slice_index_or book.now.lines line d) unit_load interval }
         ensures size { unsigned_abs result ≤ 71 * 10 ^ 33 }
     {
         if interval.low == interval.high {
-            return self.reduced_cost(book, line, interval.low);
+            let cost = self.priced_cost(book, line, interval.low);
+            return credited_cost(cost, unit_load, interval.low);
         }
         self.form(book, line)
+            .credited(unit_load)
             .least_within(book.line(line), interval)
-    }
-
-    /// The lower bound of the leaf by which the days are priced, where one line's interval changes, from the bound before.
-    pub(crate) fn bound_with(
-        &self,
-        book: &Book,
-        bound: i128,
-        ranges: &Ranges,
-        line: u16,
-        interval: Interval,
-    ) -> i128
-        requires tableau { IsTableau book.now self.now }
-        requires ranges { AllZip HasRoomFor book.now.lines ranges.now }
-        requires bound { bound ≡ bound_of self.now.yield_units.0 book.now ranges.now self.now.priced.leaf }
-        requires line { line < length book.now.lines }
-        requires ordered { interval.low ≤ interval.high }
-        requires high { (d : Line) → interval.high ≤ (slice_index_or book.now.lines line d).most }
-        ensures { result ≡ bound_of self.now.yield_units.0 book.now (slice_set ranges.now line interval) self.now.priced.leaf }
-    {
-        let old = self.least(book, line, ranges.intervals()[usize::from(line)]);
-        let new = self.least(book, line, interval);
-        exchanged(bound, old, new)
     }
 }

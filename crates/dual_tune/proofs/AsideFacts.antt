@@ -2,7 +2,6 @@
 use Rattle.std.proofs.Common.{◌≡◌, ◌∙◌, ℕ, zero, suc, ◌*◌, ◌+◌, ◌==◌, if◌then◌else◌, List, [], ◌∷◌, All, get_or, set, length, map, sym, ap, refl, arith, ℤ, pos, ◌+ℤ◌, ◌-ℤ◌, ◌*ℤ◌, neg_ℤ, unsigned_abs}
 use Rattle.std.specs.List.{sum_by}
 use Rattle.std.proofs.lemmas.List.Elements.{All-cons}
-use Rattle.std.specs.Int.{int_min}
 use Rattle.std.proofs.lemmas.List.Sums.{sum_by-cons}
 use Rattle.escrow_units.specs.declared.security.Flow.{Flow}
 use Rattle.offer_book.specs.Book.{BookContents}
@@ -15,7 +14,7 @@ use Rattle.offer_book.specs.declared.line.Line.{Line}
 use Rattle.offer_book.specs.declared.line.LineKind.{LineKind}
 use Rattle.payment_schedule.specs.Schedule.{flow_by}
 use Rattle.offer_book.specs.declared.line.LineKind.TheVariants.{Cash, Market, Security}
-use Rattle.dual_bound.specs.LeafBound.{cost_worth, form_at, form_of, least_side, least_within, limit_price, limit_multiplier, paid_worth, price_on, reduced_cost, signed_sum}
+use Rattle.dual_bound.specs.LeafBound.{cost_worth, credited, least_of_form, least_side, least_within, limit_multiplier, limit_price, paid_worth, price_on, priced_cost, priced_form, signed_sum, unit_load}
 use Rattle.proof_tree.specs.declared.interval.Interval.{Interval}
 use Rattle.proof_tree.specs.declared.tree.Leaf.{Leaf}
 use Rattle.proof_tree.specs.Tree.{with_price}
@@ -80,8 +79,8 @@ flows-elsewhere days needs place line units aside =
     mapped (λ (flow : Flow). IsElsewhere needs place flow.day) (flow_by (kind_rate line.kind) (par line units)) (schedule_of days line) aside
 
 form-aside : (n : ℕ) (book : BookContents) (leaf : Leaf) (place price : ℕ) (line : Line) → length leaf.prices ≡ length book.needs → IsAside book.days book.needs place line
-    → form_of n book (with_price leaf place price) line ≡ form_of n book leaf line
-unfolding form_of
+    → priced_form n book (with_price leaf place price) line ≡ priced_form n book leaf line
+unfolding priced_form
 form-aside n book leaf place price line same aside =
     let own = cost-same leaf place price line.kind in
     let pays = pays-elsewhere book.days book.needs place line aside in
@@ -99,8 +98,8 @@ form-aside n book leaf place price line same aside =
     }
 
 reduced-aside : (n : ℕ) (book : BookContents) (leaf : Leaf) (place price : ℕ) (line : Line) (units : ℕ) → length leaf.prices ≡ length book.needs → IsAside book.days book.needs place line
-    → reduced_cost n book (with_price leaf place price) line units ≡ reduced_cost n book leaf line units
-unfolding reduced_cost
+    → priced_cost n book (with_price leaf place price) line units ≡ priced_cost n book leaf line units
+unfolding priced_cost
 reduced-aside n book leaf place price line units same aside =
     let own = cost-same leaf place price line.kind in
     let paid = signed-same (λ (flow : Flow). IsElsewhere book.needs place flow.day)
@@ -116,6 +115,5 @@ pub least-aside : (n : ℕ) (book : BookContents) (leaf : Leaf) (place price : �
 least-aside n book leaf place price line interval same aside =
     let form = form-aside n book leaf place price line same aside in
     let reduced = reduced-aside n book leaf place price line interval.low same aside in
-    λ i. if interval.low == interval.high then reduced i
-    else if interval.low == 0 then int_min (pos 0) (int_min (form_at (form i) line.least) (form_at (form i) interval.high))
-    else int_min (form_at (form i) interval.low) (form_at (form i) interval.high)
+    λ i. if interval.low == interval.high then reduced i -ℤ unit_load book leaf.weights line *ℤ pos interval.low
+    else least_of_form (credited (form i) (unit_load book leaf.weights line)) line interval

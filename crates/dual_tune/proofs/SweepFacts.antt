@@ -12,7 +12,7 @@ use Rattle.escrow_units.specs.Flows.{total}
 use Rattle.escrow_units.specs.declared.security.Flow.{Flow}
 use Rattle.offer_book.specs.declared.coefficients.TheConstants.{COEFFICIENT_SCALE}
 use Rattle.offer_book.specs.declared.line.Line.{Line}
-use Rattle.dual_bound.specs.LeafBound.{bound_of, least_within, priced_needs, signed_sum}
+use Rattle.dual_bound.specs.LeafBound.{bound_of, least_within, priced_needs, signed_sum, weighed_ends}
 use Rattle.proof_tree.specs.declared.prices.TheConstants.{PRICE_SCALE}
 use Rattle.proof_tree.specs.declared.interval.Interval.{Interval}
 use Rattle.proof_tree.specs.declared.tree.Leaf.{Leaf}
@@ -79,13 +79,14 @@ unfolding bound_of
 bound-changed given place price d needs lines few needs_is lines_is =
     let all = given.book.now.needs in
     let prices = given.leaf.now.prices in
-    joined needs lines (lines_worth given (with_price given.leaf.now place price)) (lines_worth given given.leaf.now) (priced_needs all prices)
+    joined needs lines (weighed_ends given.book.now given.ranges.now.sums given.leaf.now.weights) (lines_worth given (with_price given.leaf.now place price)) (lines_worth given given.leaf.now)
+    (priced_needs all prices)
     (priced_needs all (set prices place price)) ((get_or all place d).cents.0 * price) ((get_or all place d).cents.0 * get_or prices place 0)
     needs_is lines_is (priced-set all prices place price d given.well_formed.every_date few)
   where
-    joined : (needs lines more less : ℤ) (whole now a b : ℕ) → needs ≡ pos (COEFFICIENT_SCALE * a) -ℤ pos (COEFFICIENT_SCALE * b) → lines ≡ more -ℤ less → now + b ≡ whole + a
-        → ((pos (COEFFICIENT_SCALE * whole) +ℤ less) +ℤ needs) +ℤ lines ≡ pos (COEFFICIENT_SCALE * now) +ℤ more
-    joined needs lines more less whole now a b h k e = omega (arith, ints)
+    joined : (needs lines ends more less : ℤ) (whole now a b : ℕ) → needs ≡ pos (COEFFICIENT_SCALE * a) -ℤ pos (COEFFICIENT_SCALE * b) → lines ≡ more -ℤ less → now + b ≡ whole + a
+        → (((pos (COEFFICIENT_SCALE * whole) +ℤ ends) +ℤ less) +ℤ needs) +ℤ lines ≡ (pos (COEFFICIENT_SCALE * now) +ℤ ends) +ℤ more
+    joined needs lines ends more less whole now a b h k e = omega (arith, ints)
 
 -- an interval, where none is named
 no-units : Interval
@@ -94,17 +95,17 @@ no-units = record { low = 0; high = 0 }
 -- what the first so many lines add more after a price step
 abbrev pub grown : Given → PriceStep → ℕ → ℤ
 grown given step k =
-    let weighed = λ (leaf : Leaf). signed_sum (λ p. least_within given.yield_units.0 given.book.now leaf p.0 p.1) (take k (zip given.book.now.lines given.ranges.now)) in
+    let weighed = λ (leaf : Leaf). signed_sum (λ p. least_within given.yield_units.0 given.book.now leaf p.0 p.1) (take k (zip given.book.now.lines given.ranges.now.lines)) in
     weighed (with_price given.leaf.now step.place step.price) -ℤ weighed given.leaf.now
 
 -- the next line
 grown-next : (given : Given) (step : PriceStep) (line : ℕ) (change own : ℤ) (d : Line) (e : Interval) → line < length given.book.now.lines → change ≡ grown given step line
-    → own ≡ least_within given.yield_units.0 given.book.now (with_price given.leaf.now step.place step.price) (get_or given.book.now.lines line d) (get_or given.ranges.now line e)
-    -ℤ least_within given.yield_units.0 given.book.now given.leaf.now (get_or given.book.now.lines line d) (get_or given.ranges.now line e)
+    → own ≡ least_within given.yield_units.0 given.book.now (with_price given.leaf.now step.place step.price) (get_or given.book.now.lines line d) (get_or given.ranges.now.lines line e)
+    -ℤ least_within given.yield_units.0 given.book.now given.leaf.now (get_or given.book.now.lines line d) (get_or given.ranges.now.lines line e)
     → change +ℤ own ≡ grown given step (line + 1)
 grown-next given step line change own d e few so_far own_is =
     let lines = given.book.now.lines in
-    let ranges = given.ranges.now in
+    let ranges = given.ranges.now.lines in
     let same = room-length lines ranges given.room in
     change-more (λ p. least_within given.yield_units.0 given.book.now (with_price given.leaf.now step.place step.price) p.0 p.1) (λ p. least_within given.yield_units.0 given.book.now given.leaf.now p.0 p.1)
     change own lines ranges line (get_or lines line d) (get_or ranges line e) few same (get_or_default lines line d (get_or lines line d) few)
@@ -116,7 +117,7 @@ pub grown-aside : (given : Given) (step : PriceStep) (from gap to : ℕ) (change
 grown-aside given step from zero to change is at few none so_far = subst (λ k. change ≡ grown given step k) (omega arith) so_far
 grown-aside given step from (suc gap) to change is at few none so_far =
     let line = get_or given.book.now.lines from some-line in
-    let interval = get_or given.ranges.now from no-units in
+    let interval = get_or given.ranges.now.lines from no-units in
     let aside = is.payers.others from some-line (omega arith) (none from (omega arith) (omega arith)) in
     let own = least-aside given.yield_units.0 given.book.now given.leaf.now step.place step.price line interval given.well_formed.every_date aside in
     let more = grown-next given step from change (pos 0) some-line no-units (omega arith) so_far (nothing _ _ own) in
@@ -131,8 +132,8 @@ grown-aside given step from (suc gap) to change is at few none so_far =
 -- the next line that pays
 pub grown-more : (given : Given) (step : PriceStep) (from line : ℕ) (change own : ℤ) (d : Line) (e : Interval) → IsStepOf given step → from ≤ line → line < length given.book.now.lines
     → ((k : ℕ) → from ≤ k → k < line → Contains step.lines.now k → ⊥) → change ≡ grown given step from
-    → own ≡ least_within given.yield_units.0 given.book.now (with_price given.leaf.now step.place step.price) (get_or given.book.now.lines line d) (get_or given.ranges.now line e)
-    -ℤ least_within given.yield_units.0 given.book.now given.leaf.now (get_or given.book.now.lines line d) (get_or given.ranges.now line e)
+    → own ≡ least_within given.yield_units.0 given.book.now (with_price given.leaf.now step.place step.price) (get_or given.book.now.lines line d) (get_or given.ranges.now.lines line e)
+    -ℤ least_within given.yield_units.0 given.book.now given.leaf.now (get_or given.book.now.lines line d) (get_or given.ranges.now.lines line e)
     → change +ℤ own ≡ grown given step (line + 1)
 grown-more given step from line change own d e is to few none so_far own_is =
     grown-next given step line change own d e few (grown-aside given step from (line - from) line change is (omega arith) (omega arith) none so_far) own_is
@@ -178,7 +179,7 @@ set-back (x ∷ xs) (suc place) v d = ap (λ ys. x ∷ ys) (set-back xs place v 
 -- a leaf's own price is put back
 pub put-back : (leaf : Leaf) (place price own : ℕ) → own ≡ get_or leaf.prices place 0 → with_price (with_price leaf place price) place own ≡ leaf
 put-back leaf place price own is =
-    ap (λ (q : ℕ). with_price (with_price leaf place price) place q) is ∙ (λ i. record { rho = leaf.rho; mu = leaf.mu; prices = set-back leaf.prices place price 0 i })
+    ap (λ (q : ℕ). with_price (with_price leaf place price) place q) is ∙ (λ i. record { rho = leaf.rho; mu = leaf.mu; weights = leaf.weights; prices = set-back leaf.prices place price 0 i })
 
 pub set-at : (xs : List ℕ) (place v : ℕ) → place < length xs → get_or (set xs place v) place 0 ≡ v
 set-at [] place v few = absurd (omega arith)
@@ -231,6 +232,7 @@ step-leaf dates leaf place v well few small above below = record {
   every_date = set-length leaf.prices place v ∙ well.every_date;
   range = set-range leaf.prices place v (2 * PRICE_SCALE) well.range small;
   falling = set-falling leaf.prices place v (omega (arith, few, well.every_date)) well.falling above below;
+  weights = well.weights;
 }
 
 leaf-before : (dates : ℕ) (leaf : Leaf) (place : ℕ) → IsLeaf dates leaf → place < dates → IsLeaf dates (with_price leaf place (price_before leaf.prices place))
@@ -268,7 +270,7 @@ leaf-beside dates leaf place side.After well few = leaf-after dates leaf place w
 
 -- a leaf with a multiplier of the limit that is tried keeps its limits
 pub leaf-weighed : (dates : ℕ) (leaf : Leaf) (mu : ℕ) → IsLeaf dates leaf → mu ≤ PRICE_SCALE → IsLeaf dates (with_multiplier leaf mu)
-leaf-weighed dates leaf mu well small = record { cost = well.cost; limit = small; every_date = well.every_date; range = well.range; falling = well.falling }
+leaf-weighed dates leaf mu well small = record { cost = well.cost; limit = small; every_date = well.every_date; range = well.range; falling = well.falling; weights = well.weights }
 
 -- what is reached stays reached by more
 pub reached-more : (given : Given) (least most : ℤ) (place : ℕ) → least ≤ℤ most → AreReached given least place → AreReached given most place
@@ -282,6 +284,7 @@ pub improved-more : (given : Given) {other improved better : Leaf} → IsImprove
     → IsBetter given.yield_units.0 given.book.now given.ranges.now other improved better → IsImproved given.yield_units.0 given.book.now given.ranges.now given.leaf.now better
 improved-more given improved better = record {
   well_formed = better.well_formed;
+  unweighted = better.unweighted;
   alike = improved.alike ∙ better.alike;
   given = omega (arith, ints, improved.given, better.no_less);
   steps = λ step is. omega (arith, ints, improved.steps step is, better.no_less);
@@ -298,6 +301,12 @@ pub step-whole : (leaf : Leaf) (step : Step) → (stepped leaf step).rho ≡ lea
 step-whole leaf step.Nothing = refl
 step-whole leaf (step.Price place price) = refl
 step-whole leaf (step.Multiplier mu) = refl
+
+-- and keeps its weights of sums
+pub step-weights : (leaf : Leaf) (step : Step) → (stepped leaf step).weights ≡ leaf.weights
+step-weights leaf step.Nothing = refl
+step-weights leaf (step.Price place price) = refl
+step-weights leaf (step.Multiplier mu) = refl
 
 -- a step of a leaf weighs the cost as the leaf does
 pub step-weight : (leaf step : Leaf) → IsStep leaf step → step.rho ≡ leaf.rho

@@ -1,25 +1,20 @@
 -- The least that a line adds, from its form.
-use Rattle.std.proofs.Common.{◌≡◌, ◌∙◌, ℕ, ◌+◌, ◌*◌, ◌^◌, ◌<◌, ◌≤◌, List, [], ◌∷◌, ◌++◌, All, Bool, true, false, inl, inr, set, ap, sym, subst, refl, arith, ℤ, pos, ◌+ℤ◌, ◌-ℤ◌, ◌*ℤ◌, get_or, length, unsigned_abs}
+use Rattle.std.proofs.Common.{◌≡◌, ◌∙◌, ℕ, ◌+◌, ◌*◌, ◌^◌, ◌<◌, ◌≤◌, List, [], ◌∷◌, ◌++◌, All, Bool, true, false, inl, inr, set, ap, sym, subst, refl, arith, pos, get_or, length, unsigned_abs}
 use Rattle.std.proofs.Math.Seq.{get_or-append_seam}
 use Rattle.std.proofs.Math.Nat.{mul-le-mul_left}
 use Rattle.std.proofs.lemmas.Bool.{cases_eq, cases_lt}
 use Rattle.std.proofs.lemmas.Grind.{get_or-set_at}
-use Rattle.std.proofs.lemmas.Int.{ints}
 use Rattle.std.proofs.lemmas.List.{get_or-set_other, get_or_append_left}
-use Rattle.std.proofs.lemmas.List.Elements.{All-head, All-tail}
-use Rattle.escrow_units.specs.declared.security.Flow.{Flow}
-use Rattle.offer_book.proofs.LineFacts.{line_cost-none, line_payments-none}
 use Rattle.offer_book.specs.Book.{BookContents, IsBook}
-use Rattle.offer_book.specs.Portfolio.{line_cost, line_payments}
 use Rattle.offer_book.specs.declared.coefficients.TheConstants.{COEFFICIENT_SCALE}
 use Rattle.offer_book.specs.declared.line.Line.{Line}
-use Rattle.dual_bound.specs.LeafBound.{cost_worth, least_within, paid_worth, priced_needs, reduced_cost, signed_sum}
+use Rattle.dual_bound.specs.LeafBound.{least_within, priced_needs, unit_load}
 use Rattle.dual_bound.specs.declared.form.Form.{Form}
 use Rattle.proof_tree.specs.declared.prices.TheConstants.{PRICE_SCALE}
 use Rattle.proof_tree.specs.declared.interval.Interval.{Interval}
 use Rattle.proof_tree.specs.declared.tree.Leaf.{Leaf}
 use Rattle.proof_tree.specs.Tree.{IsLeaf, with_price}
-use Rattle.dual_bound.proofs.BoundSizes.{form-slack, form-times, least-one, priced-small, room-length}
+use Rattle.dual_bound.proofs.BoundSizes.{least-one, of-slack, of-times, priced-small, reduced-none, room-length}
 use Rattle.dual_bound.proofs.Soundness.{all-lines}
 use Rattle.dual_bound.proofs.TableauFacts.{some-line}
 use Rattle.dual_tune.specs.Sweep.{IsFormAt, IsPoint, IsPricedFor, IsStepOf}
@@ -31,27 +26,11 @@ use Rattle.dual_tune.specs.declared.steps.Side.TheVariants as side
 use Rattle.dual_tune.specs.declared.steps.Multiplier.{Multiplier}
 use Rattle.dual_tune.specs.declared.steps.Multiplier.TheVariants as multiplier
 
--- no units add nothing
-worth-none : (weight : ℤ → ℤ) (flows : List Flow) → All (λ flow. flow.cents.0 ≡ 0) flows → signed_sum (λ (flow : Flow). weight flow.day *ℤ pos flow.cents.0) flows ≡ pos 0
-worth-none weight [] none = refl
-worth-none weight (flow ∷ flows) none =
-    let first : weight flow.day *ℤ pos flow.cents.0 ≡ weight flow.day *ℤ pos 0 = ap (λ n. weight flow.day *ℤ pos n) (All-head (λ (f : Flow). f.cents.0 ≡ 0) flow flows none) in
-    let nothing : weight flow.day *ℤ pos 0 ≡ pos 0 = omega (arith, ints) in
-    let rest = worth-none weight flows (All-tail (λ (f : Flow). f.cents.0 ≡ 0) flow flows none) in
-    (λ i. (first ∙ nothing) i +ℤ rest i)
-
-reduced_cost-none : (n : ℕ) (book : BookContents) (leaf : Leaf) (line : Line) (units : ℕ) → units ≡ 0 → reduced_cost n book leaf line units ≡ pos 0
-unfolding reduced_cost
-reduced_cost-none n book leaf line units none =
-    let own : cost_worth leaf line.kind *ℤ pos (line_cost line units) ≡ cost_worth leaf line.kind *ℤ pos 0 = ap (λ m. cost_worth leaf line.kind *ℤ pos m) (line_cost-none line units none) in
-    let nothing : cost_worth leaf line.kind *ℤ pos 0 ≡ pos 0 = omega (arith, ints) in
-    let paid = worth-none (paid_worth n book leaf line.kind) (line_payments book.days line units) (line_payments-none book.days line units none) in
-    (λ i. pos COEFFICIENT_SCALE *ℤ ((own ∙ nothing) i -ℤ paid i))
-
 pub least-none : (n : ℕ) (book : BookContents) (leaf : Leaf) (line : Line) (interval : Interval) → interval.low ≤ interval.high → interval.high ≡ 0
     → pos 0 ≡ least_within n book leaf line interval
 least-none n book leaf line interval ordered none =
-    sym (reduced_cost-none n book leaf line interval.low (omega (arith, ordered, none))) ∙ least-one n book leaf line interval (omega (arith, ordered, none))
+    sym (reduced-none n book leaf line interval.low (omega (arith, ordered, none)))
+    ∙ least-one n book leaf line (unit_load book leaf.weights line) interval (omega (arith, ordered, none))
 
 -- the form of a line at a leaf is small
 pub form-light : (given : Given) (priced leaf : Leaf) (line : ℕ) (form : Form) (units : ℕ) → IsBook given.book.now
@@ -61,7 +40,7 @@ form-light given priced leaf line form units limits is few most =
     omega (
       arith,
       ap (λ (f : Form). unsigned_abs f.slope * units) (is.value some-line),
-      form-times given.yield_units.0 book leaf (get_or book.lines line some-line) units limits.settlement is.well_formed (all-lines book.days book.lines limits.lines line some-line few) most,
+      of-times given.yield_units.0 book leaf (get_or book.lines line some-line) units limits.settlement is.well_formed (all-lines book.days book.lines limits.lines line some-line few) most,
     )
 
 pub form-thin : (given : Given) (priced leaf : Leaf) (line : ℕ) (form : Form) → IsBook given.book.now → IsFormAt given priced line leaf form → line < length given.book.now.lines
@@ -71,7 +50,7 @@ form-thin given priced leaf line form limits is few =
     omega (
       arith,
       ap (λ (f : Form). f.slack) (is.value some-line),
-      form-slack given.yield_units.0 book leaf (get_or book.lines line some-line) limits.settlement is.well_formed (all-lines book.days book.lines limits.lines line some-line few),
+      of-slack given.yield_units.0 book leaf (get_or book.lines line some-line) limits.settlement is.well_formed (all-lines book.days book.lines limits.lines line some-line few),
     )
 
 -- where ranges hold no point, any leaf will do
@@ -111,21 +90,21 @@ push-more P xs v all own k d lt =
 
 -- the form of a line out of those of all
 pub form-at : (given : Given) (priced leaf : Leaf) (forms : List Form) (line : ℕ) (form : Form) → IsLeaf (length given.book.now.needs) leaf
-    → AreLineForms given.yield_units.0 given.book.now leaf forms → IsPricedFor given.ranges.now priced leaf → line < length given.book.now.lines
+    → AreLineForms given.yield_units.0 given.book.now leaf forms → IsPricedFor given.ranges.now.lines priced leaf → line < length given.book.now.lines
     → form ≡ get_or forms line form → IsFormAt given priced line leaf form
 form-at given priced leaf forms line form well are priced_is few form_is = record {
   well_formed = well;
   value = λ d. form_is ∙ are line d form few;
-  point = λ e. priced_is line e (omega (arith, few, room-length given.book.now.lines given.ranges.now given.room));
+  point = λ e. priced_is line e (omega (arith, few, room-length given.book.now.lines given.ranges.now.lines given.room));
 }
 
 -- the form of a line that pays for a date, at a price step there
-pub step-form : (given : Given) (priced : Leaf) (step : PriceStep) (payer : ℕ) (e : Form) → IsStepOf given step → IsPricedFor given.ranges.now priced (with_price given.leaf.now step.place step.price)
+pub step-form : (given : Given) (priced : Leaf) (step : PriceStep) (payer : ℕ) (e : Form) → IsStepOf given step → IsPricedFor given.ranges.now.lines priced (with_price given.leaf.now step.place step.price)
     → payer < length step.lines.now → IsFormAt given priced (get_or step.lines.now payer 0) (with_price given.leaf.now step.place step.price) (get_or step.forms.now payer e)
 step-form given priced step payer e is priced_is few = record {
   well_formed = is.leaf;
   value = λ d. is.forms payer d e few;
-  point = λ interval. priced_is (get_or step.lines.now payer 0) interval (omega (arith, is.payers.there payer 0 few, room-length given.book.now.lines given.ranges.now given.room));
+  point = λ interval. priced_is (get_or step.lines.now payer 0) interval (omega (arith, is.payers.there payer 0 few, room-length given.book.now.lines given.ranges.now.lines given.room));
 }
 
 -- what the needs are worth is small

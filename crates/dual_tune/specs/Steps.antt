@@ -1,10 +1,10 @@
 -- The steps of a leaf, and what it means that a leaf is improved. Both are this project's own.
-use Rattle.std.specs.Prelude.{◌≡◌, ◌⊎◌, ℕ, zero, suc, ◌+◌, ◌*◌, ◌/◌, ◌<◌, ◌==◌, List, length, replicate, slice_index, slice_index_or, ◌≤ℤ◌}
+use Rattle.std.specs.Prelude.{◌≡◌, ◌⊎◌, ℕ, zero, suc, ◌+◌, ◌*◌, ◌/◌, ◌<◌, ◌==◌, List, [], length, replicate, slice_index, slice_index_or, ◌≤ℤ◌}
 use Rattle.offer_book.specs.Book.{BookContents}
 use Rattle.dual_bound.specs.LeafBound.{least_cost_of}
 use Rattle.proof_tree.specs.Tree.{IsLeaf, with_price}
 use Rattle.proof_tree.specs.declared.prices.TheConstants.{PRICE_SCALE}
-use Rattle.proof_tree.specs.declared.interval.Interval.{Interval}
+use Rattle.node_ranges.specs.Ranges.{RangesContents}
 use Rattle.proof_tree.specs.declared.tree.Leaf.{Leaf}
 use Rattle.dual_tune.specs.declared.steps.Side.{Side}
 use Rattle.dual_tune.specs.declared.steps.Side.TheVariants as side
@@ -27,7 +27,7 @@ price_beside prices place side.After = price_after prices place
 
 -- a leaf with another multiplier of the limit
 abbrev pub with_multiplier : Leaf → ℕ → Leaf
-with_multiplier leaf mu = record { rho = leaf.rho; mu = mu; prices = leaf.prices }
+with_multiplier leaf mu = record { rho = leaf.rho; mu = mu; prices = leaf.prices; weights = leaf.weights }
 
 -- a multiplier that is tried, in units of 1 / PRICE_SCALE
 abbrev pub mu_of_multiplier : Multiplier → ℕ
@@ -57,26 +57,28 @@ IsStep leaf step = IsPriceStep leaf step ⊎ IsMultiplierStep leaf step
 abbrev pub WeighAlike : Leaf → Leaf → Type 0
 WeighAlike one other = (one.rho == 0) ≡ (other.rho == 0)
 
--- a leaf is improved over ranges, at the yield n: it keeps its limits, weighs the cost where the leaf does, and shows a least cost below
--- that of neither the leaf nor any of its steps
-pub record IsImproved (n : ℕ) (book : BookContents) (ranges : List Interval) (leaf improved : Leaf) : Type 0 where
+-- a leaf is improved over ranges, at the yield n: it keeps its limits, has no weights of sums, weighs the cost where the leaf does, and shows
+-- a least cost below that of neither the leaf nor any of its steps
+pub record IsImproved (n : ℕ) (book : BookContents) (ranges : RangesContents) (leaf improved : Leaf) : Type 0 where
   pub well_formed : IsLeaf (length book.needs) improved
+  pub unweighted : improved.weights ≡ []
   pub alike : WeighAlike leaf improved
   pub given : least_cost_of n book ranges leaf ≤ℤ least_cost_of n book ranges improved
   pub steps : (step : Leaf) → IsStep leaf step → least_cost_of n book ranges step ≤ℤ least_cost_of n book ranges improved
 
 -- a leaf whose prices are 0, without a multiplier of the limit, that weighs the cost as another does
 abbrev pub zeros_like : BookContents → Leaf → Leaf
-zeros_like book leaf = record { rho = leaf.rho; mu = 0; prices = replicate (length book.needs) 0 }
+zeros_like book leaf = record { rho = leaf.rho; mu = 0; prices = replicate (length book.needs) 0; weights = [] }
 
 -- where both weigh the cost or neither does, a leaf shows no greater least cost than another
-abbrev pub ShowsNoGreater : ℕ → BookContents → List Interval → Leaf → Leaf → Type 0
+abbrev pub ShowsNoGreater : ℕ → BookContents → RangesContents → Leaf → Leaf → Type 0
 ShowsNoGreater n book ranges other leaf = WeighAlike other leaf → least_cost_of n book ranges other ≤ℤ least_cost_of n book ranges leaf
 
--- a leaf is better than a given one and another: it keeps its limits, weighs the cost where the given one does, and neither shows a
--- greater least cost
-pub record IsBetter (n : ℕ) (book : BookContents) (ranges : List Interval) (other given better : Leaf) : Type 0 where
+-- a leaf is better than a given one and another: it keeps its limits, has no weights of sums, weighs the cost where the given one does, and
+-- neither shows a greater least cost
+pub record IsBetter (n : ℕ) (book : BookContents) (ranges : RangesContents) (other given better : Leaf) : Type 0 where
   pub well_formed : IsLeaf (length book.needs) better
+  pub unweighted : better.weights ≡ []
   pub alike : WeighAlike given better
   pub no_less : least_cost_of n book ranges given ≤ℤ least_cost_of n book ranges better
   pub no_greater : ShowsNoGreater n book ranges other better

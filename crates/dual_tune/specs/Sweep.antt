@@ -39,11 +39,11 @@ pub record AreLeasts (given : Given) (leasts : List LineLeast) : Type 0 where
   pub every_line : length leasts ≡ length given.book.now.lines
   pub small : All (λ least. unsigned_abs least.least ≤ 71 * 10 ^ 33) leasts
   pub value : (line : ℕ) (d : Line) (e : Interval) (f : LineLeast) → line < length given.book.now.lines
-      → (slice_index_or leasts line f).least ≡ least_within given.yield_units.0 given.book.now given.leaf.now (slice_index_or given.book.now.lines line d) (slice_index_or given.ranges.now line e)
+      → (slice_index_or leasts line f).least ≡ least_within given.yield_units.0 given.book.now given.leaf.now (slice_index_or given.book.now.lines line d) (slice_index_or given.ranges.now.lines line e)
 
 -- what the lines add at least at a leaf, together
 abbrev pub lines_worth : Given → Leaf → ℤ
-lines_worth given leaf = signed_sum (λ p. least_within given.yield_units.0 given.book.now leaf p.0 p.1) (zip given.book.now.lines given.ranges.now)
+lines_worth given leaf = signed_sum (λ p. least_within given.yield_units.0 given.book.now leaf p.0 p.1) (zip given.book.now.lines given.ranges.now.lines)
 
 -- an interval is a point: it holds one number of units, above 0
 pub record IsPoint (interval : Interval) : Type 0 where
@@ -58,7 +58,7 @@ IsPricedFor ranges priced leaf = All (λ interval. IsPoint interval → priced �
 pub record IsFormAt (given : Given) (priced : Leaf) (line : ℕ) (leaf : Leaf) (form : Form) : Type 0 where
   pub well_formed : IsLeaf (length given.book.now.needs) leaf
   pub value : (d : Line) → form ≡ form_of given.yield_units.0 given.book.now leaf (slice_index_or given.book.now.lines line d)
-  pub point : (e : Interval) → IsPoint (slice_index_or given.ranges.now line e) → priced ≡ leaf
+  pub point : (e : Interval) → IsPoint (slice_index_or given.ranges.now.lines line e) → priced ≡ leaf
 
 -- a price step of the given leaf goes to a leaf, and has the lines that pay for the date, with their forms at that leaf
 pub record IsStepOf (given : Given) (step : PriceStep) : Type 0 where
@@ -81,7 +81,7 @@ pub record IsSweep (n : ℕ) (book : BookContents) (sweep : Sweep) : Type 0 wher
 pub record IsReadyFor (given : Given) (sweep : Sweep) : Type 0 where
   pub kept : IsSweep given.yield_units.0 given.book.now sweep
   pub leaf : sweep.table.leaf ≡ given.leaf.now
-  pub points : sweep.points ≡ false → All (λ interval. ¬ IsPoint interval) given.ranges.now
+  pub points : sweep.points ≡ false → All (λ interval. ¬ IsPoint interval) given.ranges.now.lines
 
 -- and it has the bound of the given leaf, and what each line adds at least there; the columns are priced there where the ranges hold a
 -- point

@@ -1,6 +1,6 @@
 -- The table of a leaf: the forms of lines at it and at each of its steps, by which the bounds of its steps are found over any ranges.
 -- This project's own.
-use Rattle.std.specs.Prelude.{◌≡◌, ℕ, ◌*◌, ◌<◌, List, length, slice_index_or, pos}
+use Rattle.std.specs.Prelude.{◌≡◌, ℕ, ◌*◌, ◌<◌, List, [], length, slice_index_or, pos}
 use Rattle.offer_book.specs.Book.{BookContents}
 use Rattle.offer_book.specs.declared.coefficients.TheConstants.{COEFFICIENT_SCALE}
 use Rattle.offer_book.specs.declared.line.Line.{Line}
@@ -79,11 +79,12 @@ pub record HasTableRoom (book : BookContents) (table : Table) : Type 0 where
   pub dates : length table.dates.items ≡ length book.needs
   pub steps : HasRoomForPayers table.payers.items table.dates.items
 
--- a table is that of its leaf, at the yield n: it has the form of each line at the leaf and with each multiplier that is tried, and the
+-- a table is that of its leaf, without weights of sums, at the yield n: it has the form of each line at the leaf and with each multiplier that is tried, and the
 -- forms of those that pay for a need date at the price steps there
 pub record IsTable (n : ℕ) (book : BookContents) (table : Table) : Type 0 where
   pub room : HasTableRoom book table
   pub leaf : IsLeaf (length book.needs) table.leaf
+  pub unweighted : table.leaf.weights ≡ []
   pub needs : table.needs ≡ pos (COEFFICIENT_SCALE * priced_needs book.needs table.leaf.prices)
   pub lines : AreMultiplierForms n book table.leaf table.lines
   pub steps : AreStepForms n book table.leaf table.payers.items table.dates.items

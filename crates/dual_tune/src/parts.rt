@@ -1,5 +1,5 @@
 //! The parts of a tuner: the steps, the linear program, and what it proposes.
-ghost use Rattle.std.specs.Prelude.{◌≡◌, ◌≤◌, length, IfOk, IfSome};
+ghost use Rattle.std.specs.Prelude.{[], ◌≡◌, ◌≤◌, length, IfOk, IfSome};
 ghost use Rattle.fixed_powers.specs.DiscountPowers.{IsLowTable};
 ghost use Rattle.proof_tree.specs.Tree.{IsLeaf};
 ghost use Rattle.dual_tune.specs.Steps.{IsBetter, IsImproved, ShowsNoGreater, WeighAlike, zeros_like};
@@ -67,7 +67,7 @@ fn solve_from(simplex: &mut Simplex, basis: &Basis)
 
 // Gives each line of a program its range.
 fn set_ranges(simplex: &mut Simplex, lines: u16, ranges: &Ranges)
-    requires { lines ≡ length ranges.now }
+    requires { lines ≡ length ranges.now.lines }
     ensures { simplex.new ≡ simplex.old }
 {
     let intervals = ranges.intervals();
@@ -84,7 +84,7 @@ pub(crate) fn solve(
     purpose: Purpose,
     basis: Option<&Basis>,
 )
-    requires { lines ≡ length ranges.now }
+    requires { lines ≡ length ranges.now.lines }
     ensures { simplex.new ≡ simplex.old }
 {
     simplex.aim(purpose);
@@ -115,7 +115,9 @@ fn better_of(
 ) -> i128
     requires own { AreColumnsOf given.now columns.old }
     requires other { IsLeaf (length given.now.book.now.needs) other.now }
+    requires other_unweighted { other.now.weights ≡ [] }
     requires into { IsLeaf (length given.now.book.now.needs) into.old }
+    requires unweighted { into.old.weights ≡ [] }
     requires shown { shown ≡ shown_at given.now into.old }
     ensures own { AreColumnsOf given.now columns.new }
     ensures better { IsBetter given.now.yield_units.0 given.now.book.now given.now.ranges.now other.now into.old into.new }
@@ -155,6 +157,7 @@ impl<'a> Parts<'a> {
     fn propose(&mut self, given: &Given, basis: Option<&Basis>) -> i128
         requires { ArePartsFor given.now self.old }
         ensures parts { ArePartsFor given.now self.new }
+        ensures unweighted { self.new.proposal.weights ≡ [] }
         ensures alike { WeighAlike given.now.leaf.now self.new.proposal }
         ensures weight { 1 ≤ given.now.leaf.now.rho → LEAST_WEIGHT ≤ self.new.proposal.rho }
         ensures shown { result ≡ shown_at given.now self.new.proposal }
@@ -202,6 +205,7 @@ impl<'a> Parts<'a> {
     fn or_zeros(&mut self, given: &Given, shown: i128, into: &mut Leaf) -> i128
         requires parts { ArePartsFor given.now self.old }
         requires into { IsLeaf (length given.now.book.now.needs) into.old }
+        requires unweighted { into.old.weights ≡ [] }
         requires shown { shown ≡ shown_at given.now into.old }
         ensures parts { ArePartsFor given.now self.new }
         ensures better { IsBetter given.now.yield_units.0 given.now.book.now given.now.ranges.now (zeros_like given.now.book.now given.now.leaf.now) into.old into.new }
@@ -222,6 +226,7 @@ impl<'a> Parts<'a> {
     ) -> i128
         requires parts { ArePartsFor given.now self.old }
         requires start { IfSome start (λ other. IsLeaf (length given.now.book.now.needs) other.now) }
+        requires start_unweighted { IfSome start (λ other. other.now.weights ≡ []) }
         requires into { length into.old.prices ≡ length given.now.book.now.needs }
         ensures parts { ArePartsFor given.now self.new }
         ensures improved { IsImproved given.now.yield_units.0 given.now.book.now given.now.ranges.now given.now.leaf.now into.new }

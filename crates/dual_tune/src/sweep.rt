@@ -1,5 +1,5 @@
 //! The steps of a leaf, priced one by one.
-ghost use Rattle.std.specs.Prelude.{All, ◌≡◌, ◌<◌, ◌≤◌, ◌*◌, ◌^◌, ◌+ℤ◌, ◌-ℤ◌, ◌≤ℤ◌, ◌⊎◌, ℕ, false, true, length, pos, slice_index_or, unsigned_abs, IfOk};
+ghost use Rattle.std.specs.Prelude.{All, [], ◌≡◌, ◌<◌, ◌≤◌, ◌*◌, ◌^◌, ◌+ℤ◌, ◌-ℤ◌, ◌≤ℤ◌, ◌⊎◌, ℕ, false, true, length, pos, slice_index_or, unsigned_abs, IfOk};
 ghost use Rattle.fixed_powers.specs.DiscountPowers.{IsLowTable};
 ghost use Rattle.offer_book.specs.Book.{IsBook};
 ghost use Rattle.offer_book.specs.declared.line.Line.{Line};
@@ -104,7 +104,7 @@ fn line_least(columns: &Columns, given: &Given, line: u16, form: Form) -> i128
     requires line { line < length given.now.book.now.lines }
     requires form { (leaf : LeafOf) × IsFormAt given.now columns.now.leaf line leaf form }
     ensures value { (d : Line) (e : IntervalOf) (leaf : LeafOf) → IsFormAt given.now columns.now.leaf line leaf form
-        → result ≡ least_within given.now.yield_units.0 given.now.book.now leaf (slice_index_or given.now.book.now.lines line d) (slice_index_or given.now.ranges.now line e) }
+        → result ≡ least_within given.now.yield_units.0 given.now.book.now leaf (slice_index_or given.now.book.now.lines line d) (slice_index_or given.now.ranges.now.lines line e) }
     ensures size { unsigned_abs result ≤ 71 * 10 ^ 33 }
 {
     let at = usize::from(line);
@@ -141,7 +141,7 @@ fn changed(bound: i128, needs: i128, lines: i128) -> i128
 
 // Whether ranges hold a point.
 fn hold_point(ranges: &Ranges) -> bool
-    ensures { result ≡ false → All (λ interval. ¬ IsPoint interval) ranges.now }
+    ensures { result ≡ false → All (λ interval. ¬ IsPoint interval) ranges.now.lines }
 {
     for interval in ranges.intervals() {
         if 0 < interval.low && interval.low == interval.high {
@@ -154,11 +154,11 @@ fn hold_point(ranges: &Ranges) -> bool
 // Prices a leaf, where the given ranges hold a point.
 fn price_for(columns: &mut Columns, points: bool, given: &Given, leaf: &Leaf)
     requires own { AreColumnsOf given.now columns.old }
-    requires points { points ≡ false → All (λ interval. ¬ IsPoint interval) given.now.ranges.now }
+    requires points { points ≡ false → All (λ interval. ¬ IsPoint interval) given.now.ranges.now.lines }
     requires leaf { IsLeaf (length given.now.book.now.needs) leaf.now }
     ensures own { AreColumnsOf given.now columns.new }
     ensures priced { points ≡ true → columns.new.leaf ≡ leaf.now }
-    ensures there { IsPricedFor given.now.ranges.now columns.new.leaf leaf.now }
+    ensures there { IsPricedFor given.now.ranges.now.lines columns.new.leaf leaf.now }
 {
     if !points {
         return;
@@ -184,7 +184,8 @@ fn price_step_for(columns: &mut Columns, points: bool, place: u16, price: u64)
 fn bound_by(columns: &Columns, given: &Given, leaf: &Leaf, needs: i128, forms: &[Form]) -> i128
     requires own { AreColumnsOf given.now columns.now }
     requires leaf { IsLeaf (length given.now.book.now.needs) leaf.now }
-    requires priced { IsPricedFor given.now.ranges.now columns.now.leaf leaf.now }
+    requires unweighted { leaf.now.weights ≡ [] }
+    requires priced { IsPricedFor given.now.ranges.now.lines columns.now.leaf leaf.now }
     requires needs { needs ≡ pos (COEFFICIENT_SCALE * priced_needs given.now.book.now.needs leaf.now.prices) }
     requires room { length forms.now ≡ length given.now.book.now.lines }
     requires forms { AreLineForms given.now.yield_units.0 given.now.book.now leaf.now forms.now }
@@ -202,7 +203,7 @@ fn bound_by(columns: &Columns, given: &Given, leaf: &Leaf, needs: i128, forms: &
 fn lines_change(columns: &Columns, given: &Given, leasts: &[LineLeast], step: &PriceStep) -> i128
     requires limits { IsBook given.now.book.now }
     requires own { AreColumnsOf given.now columns.now }
-    requires priced { IsPricedFor given.now.ranges.now columns.now.leaf (with_price given.now.leaf.now step.now.place step.now.price) }
+    requires priced { IsPricedFor given.now.ranges.now.lines columns.now.leaf (with_price given.now.leaf.now step.now.place step.now.price) }
     requires leasts { AreLeasts given.now leasts.now }
     requires step { IsStepOf given.now step.now }
     ensures value { result ≡ lines_worth given.now (with_price given.now.leaf.now step.now.place step.now.price) -ℤ lines_worth given.now given.now.leaf.now }
@@ -242,15 +243,17 @@ fn better(best: Best, step: Step, bound: i128) -> Best
     }
 }
 
-/// Takes over another leaf, with as many prices. It takes no memory.
+/// Takes over another leaf, with as many prices and no weights of sums. It takes no memory.
 pub(crate) fn copy_leaf(dates: u16, from: &Leaf, into: &mut Leaf)
     requires from { length from.now.prices ≡ dates }
+    requires unweighted { from.now.weights ≡ [] }
     requires into { length into.old.prices ≡ dates }
     ensures { into.new ≡ from.now }
 {
     let prices = from.prices.as_slice();
     into.rho = from.rho;
     into.mu = from.mu;
+    into.weights.clear();
     for place in 0..dates {
         into.prices.put(place, prices[usize::from(place)]);
     }
@@ -410,7 +413,7 @@ impl<'a> Sweep<'a> {
     // Keeps what each line adds at least at a leaf whose table stands.
     fn keep_leasts(&mut self, given: &Given)
         requires ready { IsReadyFor given.now self.old }
-        requires priced { IsPricedFor given.now.ranges.now self.old.columns.leaf given.now.leaf.now }
+        requires priced { IsPricedFor given.now.ranges.now.lines self.old.columns.leaf given.now.leaf.now }
         ensures ready { IsReadyFor given.now self.new }
         ensures columns { self.new.columns ≡ self.old.columns }
         ensures points { self.new.points ≡ self.old.points }

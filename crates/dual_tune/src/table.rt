@@ -1,5 +1,5 @@
 //! The forms of lines at a leaf and at its steps.
-ghost use Rattle.std.specs.Prelude.{All, ◌≡◌, ◌*◌, ◌<◌, ◌≤◌, pos, IfOk, true, length, slice_index_or};
+ghost use Rattle.std.specs.Prelude.{[], All, ◌≡◌, ◌*◌, ◌<◌, ◌≤◌, pos, IfOk, true, length, slice_index_or};
 ghost use Rattle.dual_bound.specs.LeafBound.{priced_needs as priced_needs_of};
 ghost use Rattle.proof_tree.specs.Tree.{IsLeaf, with_price};
 ghost use Rattle.dual_tune.specs.Payers.{ArePayersByDate};
@@ -257,8 +257,10 @@ impl<'a> Table<'a> {
         })
     }
 
-    /// Whether the table is that of a leaf.
+    /// Whether the table is that of a leaf. Neither has weights of sums.
     pub(crate) fn is_of(&self, leaf: &Leaf) -> bool
+        requires table { self.now.leaf.weights ≡ [] }
+        requires leaf { leaf.now.weights ≡ [] }
         ensures { result ≡ true → self.now.leaf ≡ leaf.now }
     {
         self.leaf.rho == leaf.rho
@@ -266,9 +268,10 @@ impl<'a> Table<'a> {
             && self.leaf.prices.as_slice() == leaf.prices.as_slice()
     }
 
-    /// Makes the table that of another leaf. It takes no memory.
+    /// Makes the table that of another leaf, without weights of sums. It takes no memory.
     pub(crate) fn fill(&mut self, columns: &mut Columns, leaf: &Leaf)
         requires leaf { IsLeaf (length columns.old.book.needs) leaf.now }
+        requires unweighted { leaf.now.weights ≡ [] }
         requires room { HasTableRoom columns.old.book self.old }
         ensures own { columns.new.book ≡ columns.old.book }
         ensures yield_units { columns.new.yield_units ≡ columns.old.yield_units }

@@ -1,9 +1,8 @@
 //! Improving a leaf.
-ghost use Rattle.std.specs.Prelude.{◌≡◌, ◌<◌, ◌≤◌, ◌^◌, false, length, unsigned_abs, IfOk, IfSome};
-ghost use Rattle.std.specs.List.{AllZip};
+ghost use Rattle.std.specs.Prelude.{[], ◌≡◌, ◌<◌, ◌≤◌, ◌^◌, false, length, unsigned_abs, IfOk, IfSome};
 ghost use Rattle.fixed_powers.specs.DiscountPowers.{IsLowTable};
 ghost use Rattle.dual_bound.specs.LeafBound.{bound_of, least_cost_of};
-ghost use Rattle.node_ranges.specs.Ranges.{HasRoomFor};
+ghost use Rattle.node_ranges.specs.Ranges.{AreOf};
 ghost use Rattle.proof_tree.specs.Tree.{IsLeaf};
 ghost use Rattle.dual_tune.specs.Steps.{IsImproved, ShowsNoGreater, zeros_like};
 
@@ -58,7 +57,7 @@ impl<'a> Tuner<'a> {
 
     /// Puts into a leaf, which has a price for each need date, the one over ranges that shows the greatest least cost: of a given leaf,
     /// each of its steps, the leaf of prices of 0, and what the linear program proposes; where another leaf is given, that counts too.
-    /// Either all of them weigh the cost or none: another leaf that doesn't as the given one is passed over. Where a basis is given, the
+    /// Neither has weights of sums. Either all of them weigh the cost or none: another leaf that doesn't as the given one is passed over. Where a basis is given, the
     /// program starts from it and takes twelve iterations at most; else it is solved from nothing. It answers the least cost that the
     /// leaf shows, in units of 1 / [`COEFFICIENT_SCALE`](offer_book::COEFFICIENT_SCALE) of a cent, and takes no memory.
     pub fn tune(
@@ -69,9 +68,11 @@ impl<'a> Tuner<'a> {
         basis: Option<&Basis>,
         into: &mut Leaf,
     ) -> i128
-        requires ranges { AllZip HasRoomFor self.old.book.lines ranges.now }
+        requires ranges { AreOf self.old.book ranges.now }
         requires leaf { IsLeaf (length self.old.book.needs) leaf.now }
+        requires unweighted { leaf.now.weights ≡ [] }
         requires start { IfSome start (λ other. IsLeaf (length self.old.book.needs) other.now) }
+        requires start_unweighted { IfSome start (λ other. other.now.weights ≡ []) }
         requires into { length into.old.prices ≡ length self.old.book.needs }
         ensures tuner { self.new ≡ self.old }
         ensures improved { IsImproved self.old.yield_units self.old.book ranges.now leaf.now into.new }
@@ -101,10 +102,11 @@ impl<'a> Tuner<'a> {
         basis: Option<&Basis>,
         into: &mut Leaf,
     ) -> i128
-        requires ranges { AllZip HasRoomFor self.old.book.lines ranges.now }
+        requires ranges { AreOf self.old.book ranges.now }
         requires into { length into.old.prices ≡ length self.old.book.needs }
         ensures tuner { self.new ≡ self.old }
         ensures leaf { IsLeaf (length self.old.book.needs) into.new }
+        ensures unweighted { into.new.weights ≡ [] }
         ensures without_cost { into.new.rho ≡ 0 }
         ensures bound { result ≡ bound_of self.old.yield_units self.old.book ranges.now into.new }
     {
@@ -124,7 +126,7 @@ impl<'a> Tuner<'a> {
     /// Solves the linear program of the cost over ranges, from a basis and by twelve iterations at most, for
     /// [`amount`](Tuner::amount) to tell. It takes no memory.
     pub fn stand(&mut self, ranges: &Ranges, basis: &Basis)
-        requires { AllZip HasRoomFor self.old.book.lines ranges.now }
+        requires { AreOf self.old.book ranges.now }
         ensures { self.new ≡ self.old }
     {
         let lines = self.book.line_count();
@@ -160,7 +162,7 @@ impl<'a> Tuner<'a> {
 
     /// The bound of a leaf over ranges, scaled. It takes no memory.
     pub fn bound(&mut self, ranges: &Ranges, leaf: &Leaf) -> i128
-        requires ranges { AllZip HasRoomFor self.old.book.lines ranges.now }
+        requires ranges { AreOf self.old.book ranges.now }
         requires leaf { IsLeaf (length self.old.book.needs) leaf.now }
         ensures tuner { self.new ≡ self.old }
         ensures value { result ≡ bound_of self.old.yield_units self.old.book ranges.now leaf.now }
@@ -171,7 +173,7 @@ impl<'a> Tuner<'a> {
 }
 
 /// A better leaf over ranges: the one that shows the greatest least cost, of the given leaf, each of its steps, and what the linear
-/// program proposes for these ranges. It weighs the cost where the given leaf does.
+/// program proposes for these ranges. It weighs the cost where the given leaf does. Neither has weights of sums.
 ///
 /// Conditions are those of [`bound`](dual_bound::bound).
 ///
@@ -186,8 +188,9 @@ pub fn improve(
     leaf: &Leaf,
 ) -> Result<Leaf, NoMemory>
     requires powers { IsLowTable powers.now }
-    requires ranges { AllZip HasRoomFor book.now.lines ranges.now }
+    requires ranges { AreOf book.now ranges.now }
     requires leaf { IsLeaf (length book.now.needs) leaf.now }
+    requires unweighted { leaf.now.weights ≡ [] }
     ensures { IfOk result (IsImproved powers.now.yield_units book.now ranges.now leaf.now) }
 {
     let mut tuner = Tuner::make(alloc, book, powers)?;

@@ -14,9 +14,8 @@ use Rattle.case_file.specs.Case.{CaseContents}
 use Rattle.cash_table.specs.Points.{plan_yield}
 use Rattle.cash_table.proofs.CostFacts.{cost_at_most}
 use Rattle.dual_bound.specs.Closing.{is_weak}
-use Rattle.node_ranges.specs.Ranges.{root_of}
+use Rattle.node_ranges.specs.Ranges.{RangesContents, root_of}
 use Rattle.node_ranges.specs.Claims.{is_bad_split, placed_nodes}
-use Rattle.proof_tree.specs.declared.interval.Interval.{Interval}
 use Rattle.proof_tree.specs.declared.tree.TreeNode.{TreeNode}
 use Rattle.offer_book.specs.Book.{BookContents, IsBook}
 use Rattle.offer_book.specs.Portfolio.{IsPermitted, cost}
@@ -136,8 +135,8 @@ bought_by case cert old new buy (Some buys) e some is rest =
       powers = ap (λ (t : Trial). t.powers) more.rest ∙ is.powers;
       columns = subst (λ (t : Trial). AreColumnsOf case t.columns) (sym more.rest) is.columns;
       point = ap (λ (t : Trial). length t.point) more.rest ∙ is.point;
-      walk = subst (λ (t : Trial). IsWalk case.book.lines t.walk) (sym more.rest) is.walk;
-      waiting = ap (λ (t : Trial). waiting_of case.book.lines t.walk) more.rest ∙ is.waiting;
+      walk = subst (λ (t : Trial). IsWalk case.book t.walk) (sym more.rest) is.walk;
+      waiting = ap (λ (t : Trial). waiting_of case.book t.walk) more.rest ∙ is.waiting;
       depth = ap (λ (t : Trial). vec_len t.walk.splits) more.rest ∙ is.depth;
       room = subst (λ (t : Trial). MOST_NODES ≤ vec_capacity t.walk.splits) (sym more.rest) is.room;
       count = ap (λ (t : Trial). t.nodes) more.rest ∙ is.count;
@@ -170,14 +169,13 @@ judging : (case : CaseContents) (cert : Certificate) (old new : Trial) (gap : �
     ((why : Reason) → new.reason ≡ Some why → (more : List TreeNode) → reason_of case (record cert { gap = gap; nodes = cert.nodes ++ more }) ≡ Some why) →
     (new.reason ≡ None → Stands case (record cert { gap = gap }) new) → IsJudging case (record cert { gap = gap }) new
 judging case cert old new gap is rest size found stands =
-    let lines : List Line = case.book.lines in
-    let root : List (List Interval) = root_of lines ∷ [] in
+    let root : List RangesContents = root_of case.book ∷ [] in
     record {
       powers = ap (λ (t : Trial). t.powers) rest ∙ is.powers;
       columns = subst (λ (t : Trial). AreColumnsOf case t.columns) (sym rest) is.columns;
       size = size;
       point = ap (λ (t : Trial). length t.point) rest ∙ is.point;
-      walk = subst (λ (t : Trial). IsWalk case.book.lines t.walk) (sym rest) is.walk;
+      walk = subst (λ (t : Trial). IsWalk case.book t.walk) (sym rest) is.walk;
       room = subst (λ (t : Trial). MOST_NODES ≤ vec_capacity t.walk.splits) (sym rest) is.room;
       named = ap (λ (t : Trial). t.named) rest ∙ is.named;
       gap = ap (λ (t : Trial). t.gap) rest;
@@ -193,7 +191,7 @@ judging case cert old new gap is rest size found stands =
             proper = ap (λ (ns : List TreeNode). position is_bad_split (placed_nodes case.book ns)) is.none;
             weak = ap (λ (t : Trial). t.weak) rest ∙ is.weak
                 ∙ ap (λ (ns : List TreeNode). numbered (position (is_weak case (claim_of case.book (record cert { gap = gap }))) (placed_nodes case.book ns))) (sym is.none);
-            waiting = ap (λ (t : Trial). waiting_of lines t.walk) rest ∙ is.waiting ∙ ap (λ (ns : List TreeNode). still_waiting lines root ns) (sym is.none);
+            waiting = ap (λ (t : Trial). waiting_of case.book t.walk) rest ∙ is.waiting ∙ ap (λ (ns : List TreeNode). still_waiting case.book root ns) (sym is.none);
             count = ap (λ (t : Trial). t.nodes) rest ∙ is.count ∙ ap (λ (ns : List TreeNode). length (placed_nodes case.book ns)) (sym is.none);
             depth = omega (arith, ap (λ (t : Trial). vec_len t.walk.splits) rest, is.depth);
           });

@@ -1,6 +1,6 @@
 -- Tight ranges, and the portfolio of their low ends.
-use Rattle.std.proofs.Common.{◌≡◌, ◌∙◌, ℕ, suc, ◌+◌, ◌<◌, List, [], ◌∷◌, length, get_or, set, refl, sym, ap, arith, inl, inr}
-use Rattle.std.specs.List.{All, zip}
+use Rattle.std.proofs.Common.{◌≡◌, ◌∙◌, ℕ, suc, ◌+◌, ◌<◌, List, [], ◌∷◌, length, map, get_or, set, refl, sym, ap, arith, inl, inr}
+use Rattle.std.specs.List.{All, AllZip, zip}
 use Rattle.std.proofs.lemmas.List.Elements.{All-cons, All-nil}
 use Rattle.node_ranges.proofs.RangeFacts.{tight-length}
 use Rattle.node_ranges.specs.Claims.{low_ends}
@@ -8,7 +8,7 @@ use Rattle.offer_book.specs.Book.{BookContents}
 use Rattle.offer_book.specs.Portfolio.{IsPermitted, IsPermittedUnits}
 use Rattle.std.proofs.lemmas.Bool.{cases_lt}
 use Rattle.std.proofs.lemmas.List.{get_or-set_same, get_or-set_other, length-map, length-set}
-use Rattle.node_ranges.specs.Ranges.{AreTight}
+use Rattle.node_ranges.specs.Ranges.{AreTight, IsTight, RangesContents}
 use Rattle.proof_tree.specs.declared.interval.Interval.{Interval}
 use Rattle.offer_book.specs.declared.line.Line.{Line}
 
@@ -16,13 +16,13 @@ abbrev IsPair : Line × ℕ → Type 0
 IsPair p = IsPermittedUnits p.0 p.1
 
 -- so many numbers are the low ends
-pub record AreLowUpTo (count : ℕ) (ranges : List Interval) (plan : List ℕ) : Type 0 where
-  pub same : length plan ≡ length ranges
-  pub lows : (k : ℕ) (d : Interval) → k < count → get_or plan k 0 ≡ (get_or ranges k d).low
+pub record AreLowUpTo (count : ℕ) (intervals : List Interval) (plan : List ℕ) : Type 0 where
+  pub same : length plan ≡ length intervals
+  pub lows : (k : ℕ) (d : Interval) → k < count → get_or plan k 0 ≡ (get_or intervals k d).low
 
-pub lows-more : (line low : ℕ) (ranges : List Interval) (plan : List ℕ) → AreLowUpTo line ranges plan → line < length ranges → ((d : Interval) → low ≡ (get_or ranges line d).low) →
-    AreLowUpTo (line + 1) ranges (set plan line low)
-lows-more line low ranges plan are there low_is = record {
+pub lows-more : (line low : ℕ) (intervals : List Interval) (plan : List ℕ) → AreLowUpTo line intervals plan → line < length intervals → ((d : Interval) → low ≡ (get_or intervals line d).low) →
+    AreLowUpTo (line + 1) intervals (set plan line low)
+lows-more line low intervals plan are there low_is = record {
   same = length-set plan line low ∙ are.same;
   lows = λ k d few. elim (cases_lt k line) [
     | inl less ↦ get_or-set_other plan line k low 0 (λ e. absurd (omega (arith, e, less))) ∙ are.lows k d less
@@ -30,28 +30,29 @@ lows-more line low ranges plan are there low_is = record {
   ];
 }
   where
-    here : (k : ℕ) (d : Interval) → k ≡ line → get_or (set plan line low) k 0 ≡ (get_or ranges k d).low
+    here : (k : ℕ) (d : Interval) → k ≡ line → get_or (set plan line low) k 0 ≡ (get_or intervals k d).low
     here k d e =
         ap (λ (n : ℕ). get_or (set plan line low) n 0) e ∙ get_or-set_same plan line low 0 (omega (arith, are.same, there)) ∙ low_is d
-        ∙ ap (λ (n : ℕ). (get_or ranges n d).low) (sym e)
+        ∙ ap (λ (n : ℕ). (get_or intervals n d).low) (sym e)
 
-pub lows-all : (ranges : List Interval) (plan : List ℕ) → AreLowUpTo (length ranges) ranges plan → plan ≡ low_ends ranges
+pub lows-all : (intervals : List Interval) (plan : List ℕ) → AreLowUpTo (length intervals) intervals plan → plan ≡ map (λ (i : Interval). i.low) intervals
 lows-all [] [] are = refl
 lows-all [] (units ∷ plan) are = absurd (omega (arith, are.same))
-lows-all (interval ∷ ranges) [] are = absurd (omega (arith, are.same))
-lows-all (interval ∷ ranges) (units ∷ plan) are =
+lows-all (interval ∷ intervals) [] are = absurd (omega (arith, are.same))
+lows-all (interval ∷ intervals) (units ∷ plan) are =
     let first : units ≡ interval.low = are.lows 0 interval (omega arith) in
-    let rest : plan ≡ low_ends ranges = lows-all ranges plan (record { same = omega (arith, are.same); lows = λ k d few. are.lows (suc k) d (omega (arith, few)) }) in
+    let rest : plan ≡ map (λ (i : Interval). i.low) intervals = lows-all intervals plan (record { same = omega (arith, are.same); lows = λ k d few. are.lows (suc k) d (omega (arith, few)) }) in
     (λ i. first i ∷ rest i)
 
-lows_units : (lines : List Line) (ranges : List Interval) → AreTight lines ranges → All IsPair (zip lines (low_ends ranges))
+lows_units : (lines : List Line) (intervals : List Interval) → AllZip IsTight lines intervals → All IsPair (zip lines (map (λ (i : Interval). i.low) intervals))
 lows_units [] [] tight = All-nil IsPair
-lows_units [] (interval ∷ ranges) tight = absurd tight
+lows_units [] (interval ∷ intervals) tight = absurd tight
 lows_units (line ∷ lines) [] tight = absurd tight
-lows_units (line ∷ lines) (interval ∷ ranges) tight = All-cons IsPair (line, interval.low) (zip lines (low_ends ranges)) tight.0.low (lows_units lines ranges tight.1)
+lows_units (line ∷ lines) (interval ∷ intervals) tight =
+    All-cons IsPair (line, interval.low) (zip lines (map (λ (i : Interval). i.low) intervals)) tight.0.low (lows_units lines intervals tight.1)
 
-pub lows-permitted : (book : BookContents) (ranges : List Interval) → AreTight book.lines ranges → IsPermitted book (low_ends ranges)
+pub lows-permitted : (book : BookContents) (ranges : RangesContents) → AreTight book ranges → IsPermitted book (low_ends ranges)
 lows-permitted book ranges tight = record {
-  same_length = length-map ranges (λ (interval : Interval). interval.low) ∙ sym (tight-length book.lines ranges tight);
-  units = lows_units book.lines ranges tight;
+  same_length = length-map ranges.lines (λ (interval : Interval). interval.low) ∙ sym (tight-length book.lines ranges.lines tight.lines);
+  units = lows_units book.lines ranges.lines tight.lines;
 }

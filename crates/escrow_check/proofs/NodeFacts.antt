@@ -11,13 +11,13 @@ use Rattle.case_file.specs.Case.{CaseContents}
 use Rattle.cash_table.specs.Points.{plan_yield}
 use Rattle.dual_bound.specs.Columns.{ColumnsContents}
 use Rattle.dual_bound.specs.Closing.{is_weak}
-use Rattle.node_ranges.specs.Ranges.{is_proper, narrowed, root_of}
+use Rattle.node_ranges.specs.Ranges.{RangesContents, is_proper, narrowed, root_of}
 use Rattle.node_ranges.specs.Claims.{Claim, is_bad_split, placed, placed_nodes}
-use Rattle.proof_tree.specs.declared.interval.Interval.{Interval}
+use Rattle.proof_tree.specs.declared.tree.Part.{Part}
 use Rattle.proof_tree.specs.declared.tree.TreeNode.{TreeNode}
 use Rattle.proof_tree.specs.declared.tree.TreeNode.TheVariants as node
+use Rattle.offer_book.specs.Book.{BookContents}
 use Rattle.offer_book.specs.Portfolio.{IsPermitted}
-use Rattle.offer_book.specs.declared.line.Line.{Line}
 use Rattle.escrow_check.specs.Acceptance.{claim_of, numbered, portfolio_reason, reason_by, reason_of, tree_reason}
 use Rattle.escrow_check.specs.Knows.{IsGoing, IsJudging, still_waiting}
 use Rattle.escrow_check.specs.Trial.{AreColumnsOf, Ends, IsClaim, SplitsWell, TakesEnd, TakesSplit, may_go}
@@ -29,7 +29,7 @@ use Rattle.escrow_check.proofs.PlacedFacts.{placed-more, position-more, position
 use Rattle.escrow_check.proofs.WalkFacts.{waiting-going}
 
 abbrev Placed : Type 0
-Placed = TreeNode × List Interval
+Placed = TreeNode × RangesContents
 
 -- columns whose leaf alone changes are still those of the case
 columns-stay : (case : CaseContents) (old new : ColumnsContents) → new ≡ record old { leaf = new.leaf } → AreColumnsOf case old → AreColumnsOf case new
@@ -74,14 +74,14 @@ stays case cert trial next why is found = record {
 over-stays : (case : CaseContents) (cert : Certificate) (trial : Trial) (next : TreeNode) → IsJudging case cert trial → trial.reason ≡ None → trial.walk.over ≡ true →
     IsJudging case (with_node cert next) trial
 over-stays case cert trial next is none over =
-    let lines : List Line = case.book.lines in
-    let root : List (List Interval) = root_of lines ∷ [] in
+    let book : BookContents = case.book in
+    let root : List RangesContents = root_of book ∷ [] in
     let going : IsGoing case cert trial = is.going none in
-    let waits : waiting_of lines trial.walk ≡ [] = ap (λ (b : Bool). if b then [] else trial.walk.ranges ∷ after_subtree lines trial.walk) over in
-    let still : still_waiting lines root cert.nodes ≡ [] = sym going.waiting ∙ waits in
+    let waits : waiting_of book trial.walk ≡ [] = ap (λ (b : Bool). if b then [] else trial.walk.ranges ∷ after_subtree book trial.walk) over in
+    let still : still_waiting book root cert.nodes ≡ [] = sym going.waiting ∙ waits in
     let same : placed_nodes case.book (cert.nodes ++ next ∷ []) ≡ placed_nodes case.book cert.nodes =
-    placed-more lines root cert.nodes (next ∷ [])
-    ∙ ap (λ (ws : List (List Interval)). placed_nodes case.book cert.nodes ++ placed lines ws (next ∷ [])) still
+    placed-more book root cert.nodes (next ∷ [])
+    ∙ ap (λ (ws : List RangesContents). placed_nodes case.book cert.nodes ++ placed book ws (next ∷ [])) still
     ∙ append-nil (placed_nodes case.book cert.nodes) in
     record {
       powers = is.powers;
@@ -101,38 +101,38 @@ over-stays case cert trial next is none over =
         answer = going.answer;
         proper = ap (λ (ps : List Placed). position is_bad_split ps) same ∙ going.proper;
         weak = going.weak ∙ ap (λ (ps : List Placed). numbered (position (is_weak case (claim_of case.book cert)) ps)) (sym same);
-        waiting = waits ∙ sym (waiting-more lines root cert.nodes (next ∷ []) ∙ ap (λ (ws : List (List Interval)). still_waiting lines ws (next ∷ [])) still);
+        waiting = waits ∙ sym (waiting-more book root cert.nodes (next ∷ []) ∙ ap (λ (ws : List RangesContents). still_waiting book ws (next ∷ [])) still);
         count = going.count ∙ ap (λ (ps : List Placed). length ps) (sym same);
         depth = going.depth;
       };
     }
 
 -- the node is placed at the ranges that the walk has come to
-place_one : (lines : List Line) (ranges : List Interval) (rest : List (List Interval)) (next : TreeNode) → placed lines (ranges ∷ rest) (next ∷ []) ≡ (next, ranges) ∷ []
-place_one lines ranges rest (node.Split line at) = refl
-place_one lines ranges rest node.Point = refl
-place_one lines ranges rest (node.Closed leaf) = refl
+place_one : (book : BookContents) (ranges : RangesContents) (rest : List RangesContents) (next : TreeNode) → placed book (ranges ∷ rest) (next ∷ []) ≡ (next, ranges) ∷ []
+place_one book ranges rest (node.Split part at) = refl
+place_one book ranges rest node.Point = refl
+place_one book ranges rest (node.Closed leaf) = refl
 
-place_first : (lines : List Line) (ranges : List Interval) (rest : List (List Interval)) (line at : ℕ) (more : List TreeNode) →
-    placed lines (ranges ∷ rest) (node.Split line at ∷ more) ≡ (node.Split line at, ranges) ∷ placed lines (narrowed lines ranges line at false ∷ narrowed lines ranges line at true ∷ rest) more
-place_first lines ranges rest line at more = refl
+place_first : (book : BookContents) (ranges : RangesContents) (rest : List RangesContents) (part : Part) (at : ℕ) (more : List TreeNode) →
+    placed book (ranges ∷ rest) (node.Split part at ∷ more) ≡ (node.Split part at, ranges) ∷ placed book (narrowed book ranges part at false ∷ narrowed book ranges part at true ∷ rest) more
+place_first book ranges rest part at more = refl
 
 pub record Here (case : CaseContents) (cert : Certificate) (trial : Trial) (next : TreeNode) : Type 0 where
-  pub still : still_waiting case.book.lines (root_of case.book.lines ∷ []) cert.nodes ≡ trial.walk.ranges ∷ after_subtree case.book.lines trial.walk
+  pub still : still_waiting case.book (root_of case.book ∷ []) cert.nodes ≡ trial.walk.ranges ∷ after_subtree case.book trial.walk
   pub placed : placed_nodes case.book (cert.nodes ++ next ∷ []) ≡ placed_nodes case.book cert.nodes ++ (next, trial.walk.ranges) ∷ []
 
 here : (case : CaseContents) (cert : Certificate) (trial : Trial) (next : TreeNode) → IsGoing case cert trial → trial.walk.over ≡ false → Here case cert trial next
 here case cert trial next going on =
-    let lines : List Line = case.book.lines in
-    let root : List (List Interval) = root_of lines ∷ [] in
-    let still : still_waiting lines root cert.nodes ≡ trial.walk.ranges ∷ after_subtree lines trial.walk =
-    sym going.waiting ∙ waiting-going trial.walk.over trial.walk.ranges (after_subtree lines trial.walk) on in
+    let book : BookContents = case.book in
+    let root : List RangesContents = root_of book ∷ [] in
+    let still : still_waiting book root cert.nodes ≡ trial.walk.ranges ∷ after_subtree book trial.walk =
+    sym going.waiting ∙ waiting-going trial.walk.over trial.walk.ranges (after_subtree book trial.walk) on in
     record {
       still = still;
       placed =
-          placed-more lines root cert.nodes (next ∷ [])
-          ∙ ap (λ (ws : List (List Interval)). placed_nodes case.book cert.nodes ++ placed lines ws (next ∷ [])) still
-          ∙ ap (λ (ps : List Placed). placed_nodes case.book cert.nodes ++ ps) (place_one lines trial.walk.ranges (after_subtree lines trial.walk) next);
+          placed-more book root cert.nodes (next ∷ [])
+          ∙ ap (λ (ws : List RangesContents). placed_nodes case.book cert.nodes ++ placed book ws (next ∷ [])) still
+          ∙ ap (λ (ps : List Placed). placed_nodes case.book cert.nodes ++ ps) (place_one book trial.walk.ranges (after_subtree book trial.walk) next);
     }
 
 -- the first place of a test, with one more node
@@ -159,25 +159,25 @@ weak_now old place nodes count weak closed old_is nodes_is closed_is =
 
 -- a leaf or a point
 abbrev pub IsEnd : TreeNode → Type 0
-IsEnd (node.Split line at) = ⊥
+IsEnd (node.Split part at) = ⊥
 IsEnd node.Point = Unit {0}
 IsEnd (node.Closed leaf) = Unit {0}
 
-end_good : (next : TreeNode) (ranges : List Interval) → IsEnd next → is_bad_split (next, ranges) ≡ false
-end_good (node.Split line at) ranges end = absurd end
+end_good : (next : TreeNode) (ranges : RangesContents) → IsEnd next → is_bad_split (next, ranges) ≡ false
+end_good (node.Split part at) ranges end = absurd end
 end_good node.Point ranges end = refl
 end_good (node.Closed leaf) ranges end = refl
 
-end_waits : (lines : List Line) (ranges : List Interval) (rest : List (List Interval)) (next : TreeNode) → IsEnd next → still_waiting lines (ranges ∷ rest) (next ∷ []) ≡ rest
-end_waits lines ranges rest (node.Split line at) end = absurd end
-end_waits lines ranges rest node.Point end = refl
-end_waits lines ranges rest (node.Closed leaf) end = refl
+end_waits : (book : BookContents) (ranges : RangesContents) (rest : List RangesContents) (next : TreeNode) → IsEnd next → still_waiting book (ranges ∷ rest) (next ∷ []) ≡ rest
+end_waits book ranges rest (node.Split part at) end = absurd end
+end_waits book ranges rest node.Point end = refl
+end_waits book ranges rest (node.Closed leaf) end = refl
 
 ends : (case : CaseContents) (cert : Certificate) (old new : Trial) (next : TreeNode) (closed : Bool) → IsEnd next → IsJudging case cert old → old.reason ≡ None → old.walk.over ≡ false →
-    closed ≡ (is_some old.weak || not (is_weak case old.claim (next, old.walk.ranges))) → Ends case.book.lines closed old new → IsJudging case (with_node cert next) new
+    closed ≡ (is_some old.weak || not (is_weak case old.claim (next, old.walk.ranges))) → Ends case.book closed old new → IsJudging case (with_node cert next) new
 ends case cert old new next closed end is none on closed_is ended =
-    let lines : List Line = case.book.lines in
-    let root : List (List Interval) = root_of lines ∷ [] in
+    let book : BookContents = case.book in
+    let root : List RangesContents = root_of book ∷ [] in
     let going : IsGoing case cert old = is.going none in
     let at : Here case cert old next = here case cert old next going on in
     let ps : List Placed = placed_nodes case.book cert.nodes in
@@ -207,8 +207,8 @@ ends case cert old new next closed end is none on closed_is ended =
             ∙ ap (λ (o : Option ℕ). numbered o) (sym (more_place weak ps (next, old.walk.ranges)))
             ∙ ap (λ (qs : List Placed). numbered (position weak qs)) (sym at.placed);
         waiting = ended.goes.waiting
-            ∙ sym (waiting-more lines root cert.nodes (next ∷ []) ∙ ap (λ (ws : List (List Interval)). still_waiting lines ws (next ∷ [])) at.still
-            ∙ end_waits lines old.walk.ranges (after_subtree lines old.walk) next end);
+            ∙ sym (waiting-more book root cert.nodes (next ∷ []) ∙ ap (λ (ws : List RangesContents). still_waiting book ws (next ∷ [])) at.still
+            ∙ end_waits book old.walk.ranges (after_subtree book old.walk) next end);
         count = ap (λ (t : Trial). t.nodes) ended.rest ∙ ap (λ (n : ℕ). n + 1) going.count ∙ sym (ap (λ (qs : List Placed). length qs) at.placed ∙ length-append ps ((next, old.walk.ranges) ∷ []));
         depth = omega (arith, ended.goes.depth, going.depth, ap (λ (t : Trial). t.nodes) ended.rest);
       };
@@ -228,7 +228,7 @@ same_known : (case : CaseContents) (cert : Certificate) (old new : Trial) → ne
 same_known case cert old new same is = subst (IsJudging case cert) (sym same) is
 
 pub end-known : (case : CaseContents) (cert : Certificate) (old new : Trial) (next : TreeNode) (closed : Bool) → IsEnd next → IsJudging case cert old →
-    closed ≡ (is_some old.weak || not (is_weak case old.claim (next, old.walk.ranges))) → TakesEnd case.book.lines closed old new → IsJudging case (with_node cert next) new
+    closed ≡ (is_some old.weak || not (is_weak case old.claim (next, old.walk.ranges))) → TakesEnd case.book closed old new → IsJudging case (with_node cert next) new
 end-known case cert old new next closed end is closed_is takes = by old.reason refl
   where
     by_over : old.reason ≡ None → (b : Bool) → old.walk.over ≡ b → IsJudging case (with_node cert next) new
@@ -240,12 +240,12 @@ end-known case cert old new next closed end is closed_is takes = by old.reason r
     by None none = by_over none old.walk.over refl
 
 -- ---- a split
-splits : (case : CaseContents) (cert : Certificate) (old new : Trial) (line at : ℕ) → IsJudging case cert old → old.reason ≡ None → old.walk.over ≡ false →
-    is_proper old.walk.ranges line at ≡ true → SplitsWell case.book.lines line at old new → IsJudging case (with_node cert (node.Split line at)) new
-splits case cert old new line at is none on proper split =
-    let next : TreeNode = node.Split line at in
-    let lines : List Line = case.book.lines in
-    let root : List (List Interval) = root_of lines ∷ [] in
+splits : (case : CaseContents) (cert : Certificate) (old new : Trial) (part : Part) (at : ℕ) → IsJudging case cert old → old.reason ≡ None → old.walk.over ≡ false →
+    is_proper old.walk.ranges part at ≡ true → SplitsWell case.book part at old new → IsJudging case (with_node cert (node.Split part at)) new
+splits case cert old new part at is none on proper split =
+    let next : TreeNode = node.Split part at in
+    let book : BookContents = case.book in
+    let root : List RangesContents = root_of book ∷ [] in
     let going : IsGoing case cert old = is.going none in
     let place : Here case cert old next = here case cert old next going on in
     let ps : List Placed = placed_nodes case.book cert.nodes in
@@ -273,7 +273,7 @@ splits case cert old new line at is none on proper split =
             ∙ ap (λ (o : Option ℕ). numbered o) (sym (more_place weak ps (next, old.walk.ranges) ∙ no_more (position weak ps) (length ps) false refl))
             ∙ ap (λ (qs : List Placed). numbered (position weak qs)) (sym place.placed);
         waiting = split.goes.waiting
-            ∙ sym (waiting-more lines root cert.nodes (next ∷ []) ∙ ap (λ (ws : List (List Interval)). still_waiting lines ws (next ∷ [])) place.still);
+            ∙ sym (waiting-more book root cert.nodes (next ∷ []) ∙ ap (λ (ws : List RangesContents). still_waiting book ws (next ∷ [])) place.still);
         count = ap (λ (t : Trial). t.nodes) split.rest ∙ ap (λ (n : ℕ). n + 1) going.count ∙ sym (ap (λ (qs : List Placed). length qs) place.placed ∙ length-append ps ((next, old.walk.ranges) ∷ []));
         depth = omega (arith, split.goes.depth, going.depth, ap (λ (t : Trial). t.nodes) split.rest);
       };
@@ -292,13 +292,13 @@ bad_reason case cert n found =
     ap (λ (o : Option ℕ). option_or (option_map reason.BadSplit o)
     (option_map reason.WeakLeaf (numbered (position (is_weak case (claim_of case.book cert)) (placed_nodes case.book cert.nodes))))) found
 
-bad_split : (case : CaseContents) (cert : Certificate) (old new : Trial) (line at : ℕ) → IsJudging case cert old → old.reason ≡ None → old.walk.over ≡ false →
-    is_proper old.walk.ranges line at ≡ false → new ≡ record old { nodes = old.nodes + 1; reason = Some (reason.BadSplit (old.nodes + 1)) } →
-    IsJudging case (with_node cert (node.Split line at)) new
-bad_split case cert old new line at is none on improper rest =
-    let next : TreeNode = node.Split line at in
-    let lines : List Line = case.book.lines in
-    let root : List (List Interval) = root_of lines ∷ [] in
+bad_split : (case : CaseContents) (cert : Certificate) (old new : Trial) (part : Part) (at : ℕ) → IsJudging case cert old → old.reason ≡ None → old.walk.over ≡ false →
+    is_proper old.walk.ranges part at ≡ false → new ≡ record old { nodes = old.nodes + 1; reason = Some (reason.BadSplit (old.nodes + 1)) } →
+    IsJudging case (with_node cert (node.Split part at)) new
+bad_split case cert old new part at is none on improper rest =
+    let next : TreeNode = node.Split part at in
+    let book : BookContents = case.book in
+    let root : List RangesContents = root_of book ∷ [] in
     let going : IsGoing case cert old = is.going none in
     let place : Here case cert old next = here case cert old next going on in
     let ps : List Placed = placed_nodes case.book cert.nodes in
@@ -310,7 +310,7 @@ bad_split case cert old new line at is none on improper rest =
       columns = subst (λ (t : Trial). AreColumnsOf case t.columns) (sym rest) is.columns;
       size = subst IsClaim (sym (ap (λ (t : Trial). t.claim) rest)) is.size;
       point = ap (λ (t : Trial). length t.point) rest ∙ is.point;
-      walk = subst (λ (t : Trial). IsWalk lines t.walk) (sym rest) is.walk;
+      walk = subst (λ (t : Trial). IsWalk book t.walk) (sym rest) is.walk;
       room = subst (λ (t : Trial). MOST_NODES ≤ vec_capacity t.walk.splits) (sym rest) is.room;
       named = ap (λ (t : Trial). t.named) rest ∙ is.named;
       gap = ap (λ (t : Trial). t.gap) rest ∙ is.gap;
@@ -318,10 +318,10 @@ bad_split case cert old new line at is none on improper rest =
       found = λ w e more.
           (let after : Certificate = record cert { nodes = (cert.nodes ++ next ∷ []) ++ more } in
           let nodes_are : (cert.nodes ++ next ∷ []) ++ more ≡ cert.nodes ++ (next ∷ more) = append_assoc cert.nodes (next ∷ []) more in
-          let tail : List Placed = placed lines (narrowed lines old.walk.ranges line at false ∷ narrowed lines old.walk.ranges line at true ∷ after_subtree lines old.walk) more in
+          let tail : List Placed = placed book (narrowed book old.walk.ranges part at false ∷ narrowed book old.walk.ranges part at true ∷ after_subtree book old.walk) more in
           let placed_are : placed_nodes case.book after.nodes ≡ ps ++ (next, old.walk.ranges) ∷ tail =
-          ap (λ (ns : List TreeNode). placed_nodes case.book ns) nodes_are ∙ placed-more lines root cert.nodes (next ∷ more)
-          ∙ ap (λ (ws : List (List Interval)). ps ++ placed lines ws (next ∷ more)) place.still in
+          ap (λ (ns : List TreeNode). placed_nodes case.book ns) nodes_are ∙ placed-more book root cert.nodes (next ∷ more)
+          ∙ ap (λ (ws : List RangesContents). ps ++ placed book ws (next ∷ more)) place.still in
           let number : numbered (position is_bad_split (placed_nodes case.book after.nodes)) ≡ Some (length ps + 1) =
           ap (λ (qs : List Placed). numbered (position is_bad_split qs)) placed_are ∙ first_bad ps tail (next, old.walk.ranges) going.proper bad in
           let same : Some w ≡ Some (reason.BadSplit (length ps + 1)) = sym e ∙ says in
@@ -329,19 +329,19 @@ bad_split case cert old new line at is none on improper rest =
       going = λ e. (let wrong : Some (reason.BadSplit (length ps + 1)) ≡ None = sym says ∙ e in absurd (cc));
     }
 
-pub split-known : (case : CaseContents) (cert : Certificate) (old new : Trial) (line at : ℕ) → IsJudging case cert old → TakesSplit case.book.lines line at old new →
-    IsJudging case (with_node cert (node.Split line at)) new
-split-known case cert old new line at is takes = by old.reason refl
+pub split-known : (case : CaseContents) (cert : Certificate) (old new : Trial) (part : Part) (at : ℕ) → IsJudging case cert old → TakesSplit case.book part at old new →
+    IsJudging case (with_node cert (node.Split part at)) new
+split-known case cert old new part at is takes = by old.reason refl
   where
-    by_proper : old.reason ≡ None → old.walk.over ≡ false → (b : Bool) → is_proper old.walk.ranges line at ≡ b → IsJudging case (with_node cert (node.Split line at)) new
-    by_proper none on true proper = splits case cert old new line at is none on proper (takes.going (may old none on) proper)
-    by_proper none on false improper = bad_split case cert old new line at is none on improper (takes.bad (may old none on) improper)
+    by_proper : old.reason ≡ None → old.walk.over ≡ false → (b : Bool) → is_proper old.walk.ranges part at ≡ b → IsJudging case (with_node cert (node.Split part at)) new
+    by_proper none on true proper = splits case cert old new part at is none on proper (takes.going (may old none on) proper)
+    by_proper none on false improper = bad_split case cert old new part at is none on improper (takes.bad (may old none on) improper)
 
-    by_over : old.reason ≡ None → (b : Bool) → old.walk.over ≡ b → IsJudging case (with_node cert (node.Split line at)) new
+    by_over : old.reason ≡ None → (b : Bool) → old.walk.over ≡ b → IsJudging case (with_node cert (node.Split part at)) new
     by_over none true over =
-        same_known case (with_node cert (node.Split line at)) old new (takes.over (may_over old none over)) (over-stays case cert old (node.Split line at) is none over)
-    by_over none false on = by_proper none on (is_proper old.walk.ranges line at) refl
+        same_known case (with_node cert (node.Split part at)) old new (takes.over (may_over old none over)) (over-stays case cert old (node.Split part at) is none over)
+    by_over none false on = by_proper none on (is_proper old.walk.ranges part at) refl
 
-    by : (o : Option Reason) → old.reason ≡ o → IsJudging case (with_node cert (node.Split line at)) new
-    by (Some why) found = same_known case (with_node cert (node.Split line at)) old new (takes.over (may_not old why found)) (stays case cert old (node.Split line at) why is found)
+    by : (o : Option Reason) → old.reason ≡ o → IsJudging case (with_node cert (node.Split part at)) new
+    by (Some why) found = same_known case (with_node cert (node.Split part at)) old new (takes.over (may_not old why found)) (stays case cert old (node.Split part at) why is found)
     by None none = by_over none old.walk.over refl

@@ -4,12 +4,11 @@ use Rattle.std.specs.List.{position, position_or_len}
 use Rattle.std.specs.Option.{option_or}
 use Rattle.std.proofs.lemmas.Bool.{cases_lt}
 use Rattle.std.proofs.lemmas.Bool.Decides.{nat_tests}
-use Rattle.node_ranges.specs.Ranges.{narrowed}
+use Rattle.node_ranges.specs.Ranges.{RangesContents, narrowed}
 use Rattle.node_ranges.specs.Claims.{placed}
-use Rattle.proof_tree.specs.declared.interval.Interval.{Interval}
 use Rattle.proof_tree.specs.declared.tree.TreeNode.{TreeNode}
 use Rattle.proof_tree.specs.declared.tree.TreeNode.TheVariants as node
-use Rattle.offer_book.specs.declared.line.Line.{Line}
+use Rattle.offer_book.specs.Book.{BookContents}
 use Rattle.escrow_check.specs.Knows.{still_waiting}
 
 -- ---- first places
@@ -57,31 +56,31 @@ position-more p (x ∷ xs) ys =
     by false (Some k) = refl
 
 -- ---- places of nodes
-pub placed-more : (lines : List Line) (waiting : List (List Interval)) (nodes more : List TreeNode) →
-    placed lines waiting (nodes ++ more) ≡ placed lines waiting nodes ++ placed lines (still_waiting lines waiting nodes) more
-placed-more lines waiting [] more = refl
-placed-more lines [] (next ∷ nodes) more = sym (placed_none lines more)
+pub placed-more : (book : BookContents) (waiting : List RangesContents) (nodes more : List TreeNode) →
+    placed book waiting (nodes ++ more) ≡ placed book waiting nodes ++ placed book (still_waiting book waiting nodes) more
+placed-more book waiting [] more = refl
+placed-more book [] (next ∷ nodes) more = sym (placed_none book more)
   where
-    placed_none : (lines : List Line) (more : List TreeNode) → placed lines [] more ≡ []
-    placed_none lines [] = refl
-    placed_none lines (next ∷ more) = refl
-placed-more lines (ranges ∷ waiting) (node.Split line at ∷ nodes) more =
-    ap (λ (ps : List (TreeNode × List Interval)). (node.Split line at, ranges) ∷ ps)
-    (placed-more lines (narrowed lines ranges line at false ∷ narrowed lines ranges line at true ∷ waiting) nodes more)
-placed-more lines (ranges ∷ waiting) (node.Point ∷ nodes) more =
-    ap (λ (ps : List (TreeNode × List Interval)). (node.Point, ranges) ∷ ps) (placed-more lines waiting nodes more)
-placed-more lines (ranges ∷ waiting) (node.Closed leaf ∷ nodes) more =
-    ap (λ (ps : List (TreeNode × List Interval)). (node.Closed leaf, ranges) ∷ ps) (placed-more lines waiting nodes more)
+    placed_none : (book : BookContents) (more : List TreeNode) → placed book [] more ≡ []
+    placed_none book [] = refl
+    placed_none book (next ∷ more) = refl
+placed-more book (ranges ∷ waiting) (node.Split part at ∷ nodes) more =
+    ap (λ (ps : List (TreeNode × RangesContents)). (node.Split part at, ranges) ∷ ps)
+    (placed-more book (narrowed book ranges part at false ∷ narrowed book ranges part at true ∷ waiting) nodes more)
+placed-more book (ranges ∷ waiting) (node.Point ∷ nodes) more =
+    ap (λ (ps : List (TreeNode × RangesContents)). (node.Point, ranges) ∷ ps) (placed-more book waiting nodes more)
+placed-more book (ranges ∷ waiting) (node.Closed leaf ∷ nodes) more =
+    ap (λ (ps : List (TreeNode × RangesContents)). (node.Closed leaf, ranges) ∷ ps) (placed-more book waiting nodes more)
 
-pub waiting-more : (lines : List Line) (waiting : List (List Interval)) (nodes more : List TreeNode) →
-    still_waiting lines waiting (nodes ++ more) ≡ still_waiting lines (still_waiting lines waiting nodes) more
-waiting-more lines waiting [] more = refl
-waiting-more lines [] (next ∷ nodes) more = sym (waiting_none lines more)
+pub waiting-more : (book : BookContents) (waiting : List RangesContents) (nodes more : List TreeNode) →
+    still_waiting book waiting (nodes ++ more) ≡ still_waiting book (still_waiting book waiting nodes) more
+waiting-more book waiting [] more = refl
+waiting-more book [] (next ∷ nodes) more = sym (waiting_none book more)
   where
-    waiting_none : (lines : List Line) (more : List TreeNode) → still_waiting lines [] more ≡ []
-    waiting_none lines [] = refl
-    waiting_none lines (next ∷ more) = refl
-waiting-more lines (ranges ∷ waiting) (node.Split line at ∷ nodes) more =
-    waiting-more lines (narrowed lines ranges line at false ∷ narrowed lines ranges line at true ∷ waiting) nodes more
-waiting-more lines (ranges ∷ waiting) (node.Point ∷ nodes) more = waiting-more lines waiting nodes more
-waiting-more lines (ranges ∷ waiting) (node.Closed leaf ∷ nodes) more = waiting-more lines waiting nodes more
+    waiting_none : (book : BookContents) (more : List TreeNode) → still_waiting book [] more ≡ []
+    waiting_none book [] = refl
+    waiting_none book (next ∷ more) = refl
+waiting-more book (ranges ∷ waiting) (node.Split part at ∷ nodes) more =
+    waiting-more book (narrowed book ranges part at false ∷ narrowed book ranges part at true ∷ waiting) nodes more
+waiting-more book (ranges ∷ waiting) (node.Point ∷ nodes) more = waiting-more book waiting nodes more
+waiting-more book (ranges ∷ waiting) (node.Closed leaf ∷ nodes) more = waiting-more book waiting nodes more

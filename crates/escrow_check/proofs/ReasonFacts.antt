@@ -16,7 +16,7 @@ use Rattle.cash_table.specs.First.{first_short_of}
 use Rattle.cash_table.specs.Points.{is_within_limit}
 use Rattle.dual_bound.specs.Closing.{is_weak}
 use Rattle.node_ranges.specs.Claims.{is_bad_split, placed_nodes}
-use Rattle.proof_tree.specs.declared.interval.Interval.{Interval}
+use Rattle.node_ranges.specs.Ranges.{RangesContents}
 use Rattle.proof_tree.specs.declared.tree.TreeNode.{TreeNode}
 use Rattle.proof_tree.specs.declared.tree.TreeNode.TheVariants as node
 use Rattle.offer_book.specs.Book.{BookContents, IsBook}
@@ -68,8 +68,8 @@ first_placed book (first ∷ others) found is = by (is_offered book.lines first)
 clash : true ≡ false → ⊥
 clash e = absurd (cc)
 
-first-node : (test : TreeNode × List Interval → Bool) (nodes : List (TreeNode × List Interval)) (place : ℕ) → place < length nodes
-    → ((d : TreeNode × List Interval) → test (get_or nodes place d) ≡ true) → ((k : ℕ) (d : TreeNode × List Interval) → k < place → test (get_or nodes k d) ≡ false)
+first-node : (test : TreeNode × RangesContents → Bool) (nodes : List (TreeNode × RangesContents)) (place : ℕ) → place < length nodes
+    → ((d : TreeNode × RangesContents) → test (get_or nodes place d) ≡ true) → ((k : ℕ) (d : TreeNode × RangesContents) → k < place → test (get_or nodes k d) ≡ false)
     → IsFirstNode (λ p. test p ≡ false) nodes (place + 1)
 first-node test [] place few here before = absurd (omega arith)
 first-node test (first ∷ nodes) zero few here before = record {
@@ -78,7 +78,7 @@ first-node test (first ∷ nodes) zero few here before = record {
   after = nodes;
   place = refl;
   count = refl;
-  good = All-nil (λ (p : TreeNode × List Interval). test p ≡ false);
+  good = All-nil (λ (p : TreeNode × RangesContents). test p ≡ false);
   not_good = λ bad. clash (sym (here first) ∙ bad);
 }
 first-node test (first ∷ nodes) (suc place) few here before =
@@ -89,13 +89,13 @@ first-node test (first ∷ nodes) (suc place) few here before =
       after = rest.after;
       place = ap (λ others. first ∷ others) rest.place;
       count = omega (arith, rest.count);
-      good = All-cons (λ (p : TreeNode × List Interval). test p ≡ false) first rest.before (before 0 first (omega arith)) rest.good;
+      good = All-cons (λ (p : TreeNode × RangesContents). test p ≡ false) first rest.before (before 0 first (omega arith)) rest.good;
       not_good = rest.not_good;
     }
 
-first-placed : (test : TreeNode × List Interval → Bool) (nodes : List (TreeNode × List Interval)) (place : ℕ) → position test nodes ≡ Some place → IsFirstNode (λ p. test p ≡ false) nodes (place + 1)
+first-placed : (test : TreeNode × RangesContents → Bool) (nodes : List (TreeNode × RangesContents)) (place : ℕ) → position test nodes ≡ Some place → IsFirstNode (λ p. test p ≡ false) nodes (place + 1)
 first-placed test nodes place found =
-    first-node test nodes place (position-Some test nodes place (node.Point, []) found).0
+    first-node test nodes place (position-Some test nodes place (node.Point, record { lines = []; sums = [] }) found).0
     (λ d. (position-Some test nodes place d found).1) (λ k d less. (position-Some test nodes place d found).2 k less)
 
 -- ---- a reason that is found stands

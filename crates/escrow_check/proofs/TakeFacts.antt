@@ -10,15 +10,14 @@ use Rattle.bound_certificate.specs.declared.item.Item.TheVariants as item
 use Rattle.bound_certificate.specs.declared.limits.TheConstants.{GREATEST_GAP, MOST_NODES}
 use Rattle.case_file.specs.Case.{CaseContents}
 use Rattle.dual_bound.specs.Closing.{is_closed_leaf, is_closed_point}
-use Rattle.node_ranges.specs.Ranges.{narrowed, root_of}
+use Rattle.node_ranges.specs.Ranges.{RangesContents, narrowed, root_of}
 use Rattle.node_ranges.specs.Claims.{placed}
 use Rattle.proof_tree.specs.Tree.{IsLeaf}
-use Rattle.proof_tree.specs.declared.interval.Interval.{Interval}
 use Rattle.proof_tree.specs.declared.tree.Leaf.{Leaf}
+use Rattle.proof_tree.specs.declared.tree.Part.{Part}
 use Rattle.proof_tree.specs.declared.tree.TreeNode.{TreeNode}
 use Rattle.proof_tree.specs.declared.tree.TreeNode.TheVariants as node
-use Rattle.offer_book.specs.Book.{IsBook}
-use Rattle.offer_book.specs.declared.line.Line.{Line}
+use Rattle.offer_book.specs.Book.{BookContents, IsBook}
 use Rattle.escrow_check.specs.Knows.{Comes, IsBuying, IsGoing, IsJudging, Knows}
 use Rattle.escrow_check.specs.Trial.{IsReady, TakesEnd, TakesSplit, closed_leaf, closed_point, with_buy, with_gap}
 use Rattle.escrow_check.specs.declared.trial.Trial.{Trial}
@@ -40,9 +39,9 @@ comes_gap case cert d cents leaf trial c = absurd c.suited
 abbrev Judges : CaseContents → Certificate → Trial → Type 0
 Judges case cert trial = IsJudging case cert trial × (length cert.nodes < MOST_NODES)
 
-pub comes_split : (case : CaseContents) (cert : Certificate) (d : Due) (line at : ℕ) (leaf : Leaf) (trial : Trial) → Comes case cert d (item.Split line at) leaf trial → Judges case cert trial
-comes_split case cert (due.Node left trees) line at leaf trial c = (c.knows, c.few left trees refl)
-comes_split case cert d line at leaf trial c = absurd c.suited
+pub comes_split : (case : CaseContents) (cert : Certificate) (d : Due) (part : Part) (at : ℕ) (leaf : Leaf) (trial : Trial) → Comes case cert d (item.Split part at) leaf trial → Judges case cert trial
+comes_split case cert (due.Node left trees) part at leaf trial c = (c.knows, c.few left trees refl)
+comes_split case cert d part at leaf trial c = absurd c.suited
 
 pub comes_point : (case : CaseContents) (cert : Certificate) (d : Due) (leaf : Leaf) (trial : Trial) → Comes case cert d item.Point leaf trial → Judges case cert trial
 comes_point case cert (due.Node left trees) leaf trial c = (c.knows, c.few left trees refl)
@@ -54,13 +53,13 @@ comes_leaf case cert (due.Node left trees) leaf trial c = ((c.knows, c.few left 
 comes_leaf case cert d leaf trial c = absurd c.suited
 
 -- ---- room for one more node
-placed-length : (lines : List Line) (waiting : List (List Interval)) (nodes : List TreeNode) → length (placed lines waiting nodes) ≤ length nodes
-placed-length lines waiting [] = omega arith
-placed-length lines [] (next ∷ nodes) = omega arith
-placed-length lines (ranges ∷ waiting) (node.Split line at ∷ nodes) =
-    omega (arith, placed-length lines (narrowed lines ranges line at false ∷ narrowed lines ranges line at true ∷ waiting) nodes)
-placed-length lines (ranges ∷ waiting) (node.Point ∷ nodes) = omega (arith, placed-length lines waiting nodes)
-placed-length lines (ranges ∷ waiting) (node.Closed leaf ∷ nodes) = omega (arith, placed-length lines waiting nodes)
+placed-length : (book : BookContents) (waiting : List RangesContents) (nodes : List TreeNode) → length (placed book waiting nodes) ≤ length nodes
+placed-length book waiting [] = omega arith
+placed-length book [] (next ∷ nodes) = omega arith
+placed-length book (ranges ∷ waiting) (node.Split part at ∷ nodes) =
+    omega (arith, placed-length book (narrowed book ranges part at false ∷ narrowed book ranges part at true ∷ waiting) nodes)
+placed-length book (ranges ∷ waiting) (node.Point ∷ nodes) = omega (arith, placed-length book waiting nodes)
+placed-length book (ranges ∷ waiting) (node.Closed leaf ∷ nodes) = omega (arith, placed-length book waiting nodes)
 
 none_of : (o : Option Reason) (b : Bool) → (is_none o && b) ≡ true → o ≡ None
 none_of None b e = refl
@@ -76,7 +75,7 @@ ready-of case cert trial judges =
       point = is.point;
       walk = is.walk;
       count = λ may. (let going : IsGoing case cert trial = is.going (none_of trial.reason (not trial.walk.over) may) in
-          omega (arith, going.count, placed-length case.book.lines (root_of case.book.lines ∷ []) cert.nodes, judges.1));
+          omega (arith, going.count, placed-length case.book (root_of case.book ∷ []) cert.nodes, judges.1));
       depth = λ may. (is.going (none_of trial.reason (not trial.walk.over) may)).depth;
       room = is.room;
     }
@@ -107,11 +106,11 @@ pub knows-gap : (case : CaseContents) (cert : Certificate) (d : Due) (cents : �
 knows-gap case cert (due.Gap most) cents leaf old new limits c rest = gap-known case cert old new cents limits c.knows c.suited rest
 knows-gap case cert d cents leaf old new limits c rest = absurd c.suited
 
-pub knows-split : (case : CaseContents) (cert : Certificate) (d : Due) (line at : ℕ) (leaf : Leaf) (old new : Trial) → Comes case cert d (item.Split line at) leaf old →
-    TakesSplit case.book.lines line at old new → Knows case (with_item cert (item.Split line at) leaf) (due_after d (item.Split line at)) new
-knows-split case cert (due.Node left trees) line at leaf old new c takes =
-    by_nodes case (with_item cert (item.Split line at) leaf) new (left - 1) (trees + 1) (left - 1 == 0) (split-known case cert old new line at c.knows takes)
-knows-split case cert d line at leaf old new c takes = absurd c.suited
+pub knows-split : (case : CaseContents) (cert : Certificate) (d : Due) (part : Part) (at : ℕ) (leaf : Leaf) (old new : Trial) → Comes case cert d (item.Split part at) leaf old →
+    TakesSplit case.book part at old new → Knows case (with_item cert (item.Split part at) leaf) (due_after d (item.Split part at)) new
+knows-split case cert (due.Node left trees) part at leaf old new c takes =
+    by_nodes case (with_item cert (item.Split part at) leaf) new (left - 1) (trees + 1) (left - 1 == 0) (split-known case cert old new part at c.knows takes)
+knows-split case cert d part at leaf old new c takes = absurd c.suited
 
 not_not : (a b : Bool) → (a || b) ≡ (a || not (not b))
 not_not true b = refl
@@ -119,14 +118,14 @@ not_not false true = refl
 not_not false false = refl
 
 pub knows-point : (case : CaseContents) (cert : Certificate) (d : Due) (leaf : Leaf) (old new : Trial) → Comes case cert d item.Point leaf old →
-    TakesEnd case.book.lines (closed_point case old) old new → Knows case (with_item cert item.Point leaf) (due_after d item.Point) new
+    TakesEnd case.book (closed_point case old) old new → Knows case (with_item cert item.Point leaf) (due_after d item.Point) new
 knows-point case cert (due.Node left trees) leaf old new c takes =
     by_nodes case (with_item cert item.Point leaf) new (left - 1) (trees - 1) (left - 1 == 0)
     (end-known case cert old new node.Point (closed_point case old) tt c.knows (not_not (is_some old.weak) (is_closed_point case old.claim old.walk.ranges)) takes)
 knows-point case cert d leaf old new c takes = absurd c.suited
 
 pub knows-leaf : (case : CaseContents) (cert : Certificate) (d : Due) (leaf : Leaf) (old new : Trial) → Comes case cert d item.Leaf leaf old →
-    TakesEnd case.book.lines (closed_leaf case old leaf) old new → Knows case (with_item cert item.Leaf leaf) (due_after d item.Leaf) new
+    TakesEnd case.book (closed_leaf case old leaf) old new → Knows case (with_item cert item.Leaf leaf) (due_after d item.Leaf) new
 knows-leaf case cert (due.Node left trees) leaf old new c takes =
     by_nodes case (with_item cert item.Leaf leaf) new (left - 1) (trees - 1) (left - 1 == 0)
     (end-known case cert old new (node.Closed leaf) (closed_leaf case old leaf) tt c.knows (not_not (is_some old.weak) (is_closed_leaf case old.claim old.walk.ranges leaf)) takes)

@@ -11,14 +11,13 @@ use Rattle.bound_certificate.specs.declared.limits.TheConstants.{MOST_NODES}
 use Rattle.case_file.specs.Case.{CaseContents}
 use Rattle.cash_table.specs.Points.{plan_yield}
 use Rattle.dual_bound.specs.Closing.{is_weak}
-use Rattle.node_ranges.specs.Ranges.{narrowed, root_of}
+use Rattle.node_ranges.specs.Ranges.{RangesContents, narrowed, root_of}
 use Rattle.node_ranges.specs.Claims.{is_bad_split, placed_nodes}
-use Rattle.proof_tree.specs.declared.interval.Interval.{Interval}
 use Rattle.proof_tree.specs.declared.tree.Leaf.{Leaf}
 use Rattle.proof_tree.specs.declared.tree.TreeNode.{TreeNode}
 use Rattle.proof_tree.specs.declared.tree.TreeNode.TheVariants as node
+use Rattle.offer_book.specs.Book.{BookContents}
 use Rattle.offer_book.specs.Portfolio.{IsPermitted}
-use Rattle.offer_book.specs.declared.line.Line.{Line}
 use Rattle.escrow_check.specs.Acceptance.{claim_of, first_not_offered, numbered, plan_of, portfolio_reason, reason_of}
 use Rattle.escrow_check.specs.Trial.{AreColumnsOf, ArePowersOf, IsClaim}
 use Rattle.escrow_check.specs.Walk.{IsWalk, waiting_of}
@@ -32,21 +31,21 @@ buys_in None = []
 buys_in (Some buys) = buys
 
 -- the ranges that wait behind nodes
-abbrev pub still_waiting : List Line → List (List Interval) → List TreeNode → List (List Interval)
-still_waiting lines waiting [] = waiting
-still_waiting lines [] (next ∷ nodes) = []
-still_waiting lines (ranges ∷ waiting) (node.Split line at ∷ nodes) =
-    still_waiting lines (narrowed lines ranges line at false ∷ narrowed lines ranges line at true ∷ waiting) nodes
-still_waiting lines (ranges ∷ waiting) (node.Point ∷ nodes) = still_waiting lines waiting nodes
-still_waiting lines (ranges ∷ waiting) (node.Closed leaf ∷ nodes) = still_waiting lines waiting nodes
+abbrev pub still_waiting : BookContents → List RangesContents → List TreeNode → List RangesContents
+still_waiting book waiting [] = waiting
+still_waiting book [] (next ∷ nodes) = []
+still_waiting book (ranges ∷ waiting) (node.Split part at ∷ nodes) =
+    still_waiting book (narrowed book ranges part at false ∷ narrowed book ranges part at true ∷ waiting) nodes
+still_waiting book (ranges ∷ waiting) (node.Point ∷ nodes) = still_waiting book waiting nodes
+still_waiting book (ranges ∷ waiting) (node.Closed leaf ∷ nodes) = still_waiting book waiting nodes
 
 -- before the gap: the purchases are known, and the tree stands at its root
 pub record IsBuying (case : CaseContents) (cert : Certificate) (trial : Trial) : Type 0 where
   pub powers : ArePowersOf case trial.powers
   pub columns : AreColumnsOf case trial.columns
   pub point : length trial.point ≡ length case.book.lines
-  pub walk : IsWalk case.book.lines trial.walk
-  pub waiting : waiting_of case.book.lines trial.walk ≡ root_of case.book.lines ∷ []
+  pub walk : IsWalk case.book trial.walk
+  pub waiting : waiting_of case.book trial.walk ≡ root_of case.book ∷ []
   pub depth : vec_len trial.walk.splits ≡ 0
   pub room : MOST_NODES ≤ vec_capacity trial.walk.splits
   pub count : trial.nodes ≡ 0
@@ -66,7 +65,7 @@ pub record IsGoing (case : CaseContents) (cert : Certificate) (trial : Trial) : 
   pub answer : is_some cert.buys ≡ true → trial.answer ≡ plan_yield case.book trial.plan
   pub proper : position is_bad_split (placed_nodes case.book cert.nodes) ≡ None
   pub weak : trial.weak ≡ numbered (position (is_weak case (claim_of case.book cert)) (placed_nodes case.book cert.nodes))
-  pub waiting : waiting_of case.book.lines trial.walk ≡ still_waiting case.book.lines (root_of case.book.lines ∷ []) cert.nodes
+  pub waiting : waiting_of case.book trial.walk ≡ still_waiting case.book (root_of case.book ∷ []) cert.nodes
   pub count : trial.nodes ≡ length (placed_nodes case.book cert.nodes)
   pub depth : vec_len trial.walk.splits ≤ trial.nodes
 
@@ -76,7 +75,7 @@ pub record IsJudging (case : CaseContents) (cert : Certificate) (trial : Trial) 
   pub columns : AreColumnsOf case trial.columns
   pub size : IsClaim trial.claim
   pub point : length trial.point ≡ length case.book.lines
-  pub walk : IsWalk case.book.lines trial.walk
+  pub walk : IsWalk case.book trial.walk
   pub room : MOST_NODES ≤ vec_capacity trial.walk.splits
   pub named : trial.named ≡ is_some cert.buys
   pub gap : trial.gap ≡ cert.gap

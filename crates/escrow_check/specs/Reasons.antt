@@ -6,7 +6,7 @@ use Rattle.case_file.specs.Case.{CaseContents}
 use Rattle.cash_table.specs.Points.{is_within_limit}
 use Rattle.dual_bound.specs.Closing.{is_weak}
 use Rattle.node_ranges.specs.Claims.{IsProper, placed_nodes}
-use Rattle.proof_tree.specs.declared.interval.Interval.{Interval}
+use Rattle.node_ranges.specs.Ranges.{RangesContents}
 use Rattle.proof_tree.specs.declared.tree.TreeNode.{TreeNode}
 use Rattle.offer_book.specs.Book.{BookContents}
 use Rattle.offer_book.specs.Portfolio.{IsFirstShort, IsPermitted, Meets}
@@ -38,11 +38,11 @@ HasSound case None = Unit {0}
 HasSound case (Some buys) = IsSound case buys
 
 -- the nodes of a tree with their ranges
-abbrev pub nodes_of : CaseContents → Certificate → List (TreeNode × List Interval)
+abbrev pub nodes_of : CaseContents → Certificate → List (TreeNode × RangesContents)
 nodes_of case cert = placed_nodes case.book cert.nodes
 
 -- a leaf or point bears the claim of its certificate out over its own ranges; splits have nothing to bear out
-abbrev pub IsClosed : CaseContents → Certificate → TreeNode × List Interval → Type 0
+abbrev pub IsClosed : CaseContents → Certificate → TreeNode × RangesContents → Type 0
 IsClosed case cert p = is_weak case (claim_of case.book cert) p ≡ false
 
 -- a tree whose splits are all proper, and whose leaves and points are all closed
@@ -72,10 +72,10 @@ pub record IsFirstNotOffered (book : BookContents) (buys : List Buy) (line : ℕ
   pub named : line ≡ buy.line
 
 -- the node of this number, from 1, is the first of its kind
-pub record IsFirstNode (IsOf : TreeNode × List Interval → Type 0) (nodes : List (TreeNode × List Interval)) (number : ℕ) : Type 0 where
-  pub before : List (TreeNode × List Interval)
-  pub here : TreeNode × List Interval
-  pub after : List (TreeNode × List Interval)
+pub record IsFirstNode (IsOf : TreeNode × RangesContents → Type 0) (nodes : List (TreeNode × RangesContents)) (number : ℕ) : Type 0 where
+  pub before : List (TreeNode × RangesContents)
+  pub here : TreeNode × RangesContents
+  pub after : List (TreeNode × RangesContents)
   pub place : nodes ≡ before ++ here ∷ after
   pub count : number ≡ length before + 1
   pub good : All IsOf before

@@ -12,13 +12,12 @@ use Rattle.case_file.specs.Case.{CaseContents}
 use Rattle.cash_table.specs.First.{first_short_of}
 use Rattle.cash_table.specs.Points.{plan_yield}
 use Rattle.dual_bound.specs.Columns.{ColumnsContents}
-use Rattle.node_ranges.specs.Ranges.{is_proper, narrowed, root_of}
+use Rattle.node_ranges.specs.Ranges.{RangesContents, is_proper, narrowed, root_of}
 use Rattle.node_ranges.specs.Claims.{Claim}
-use Rattle.proof_tree.specs.declared.interval.Interval.{Interval}
 use Rattle.proof_tree.specs.declared.tree.Leaf.{Leaf}
+use Rattle.proof_tree.specs.declared.tree.Part.{Part}
 use Rattle.offer_book.specs.Book.{BookContents}
 use Rattle.offer_book.specs.Portfolio.{cost}
-use Rattle.offer_book.specs.declared.line.Line.{Line}
 use Rattle.yield_enclosure.specs.YieldAnswers.{is_within}
 use Rattle.yield_enclosure.specs.declared.answer.YieldAnswer.{YieldAnswer}
 use Rattle.escrow_check.specs.Acceptance.{is_offered}
@@ -52,8 +51,8 @@ pub record IsNew (case : CaseContents) (trial : Trial) : Type 0 where
   pub plan : trial.plan ≡ replicate (length case.book.lines) 0
   pub claim : trial.claim ≡ None
   pub reason : trial.reason ≡ None
-  pub walk : IsWalk case.book.lines trial.walk
-  pub waiting : waiting_of case.book.lines trial.walk ≡ root_of case.book.lines ∷ []
+  pub walk : IsWalk case.book trial.walk
+  pub waiting : waiting_of case.book trial.walk ≡ root_of case.book ∷ []
   pub depth : vec_len trial.walk.splits ≡ 0
   pub room : MOST_NODES ≤ vec_capacity trial.walk.splits
   pub nodes : trial.nodes ≡ 0
@@ -94,15 +93,15 @@ pub record IsReady (case : CaseContents) (trial : Trial) : Type 0 where
   pub columns : AreColumnsOf case trial.columns
   pub claim : IsClaim trial.claim
   pub point : length trial.point ≡ length case.book.lines
-  pub walk : IsWalk case.book.lines trial.walk
+  pub walk : IsWalk case.book trial.walk
   pub count : may_go trial ≡ true → trial.nodes < MOST_NODES
   pub depth : may_go trial ≡ true → vec_len trial.walk.splits ≤ trial.nodes
   pub room : MOST_NODES ≤ vec_capacity trial.walk.splits
 
 -- a tree goes on: other ranges are waiting, within at most one more split, and the columns are the same, but for their leaf
-pub record GoesOn (lines : List Line) (come : List (List Interval)) (old new : Trial) : Type 0 where
-  pub walk : IsWalk lines new.walk
-  pub waiting : waiting_of lines new.walk ≡ come
+pub record GoesOn (book : BookContents) (come : List RangesContents) (old new : Trial) : Type 0 where
+  pub walk : IsWalk book new.walk
+  pub waiting : waiting_of book new.walk ≡ come
   pub depth : vec_len new.walk.splits ≤ vec_len old.walk.splits + 1
   pub room : vec_capacity old.walk.splits ≤ vec_capacity new.walk.splits
   pub point : length new.point ≡ length old.point
@@ -113,13 +112,13 @@ abbrev pub weak_after : Bool → Trial → Option ℕ
 weak_after closed trial = if is_none trial.weak && not closed then Some (trial.nodes + 1) else trial.weak
 
 -- a leaf or a point came
-pub record Ends (lines : List Line) (closed : Bool) (old new : Trial) : Type 0 where
+pub record Ends (book : BookContents) (closed : Bool) (old new : Trial) : Type 0 where
   pub rest : new ≡ record old { nodes = old.nodes + 1; weak = weak_after closed old; walk = new.walk; point = new.point; columns = new.columns }
-  pub goes : GoesOn lines (after_subtree lines old.walk) old new
+  pub goes : GoesOn book (after_subtree book old.walk) old new
 
 -- where nodes still matter
-pub record TakesEnd (lines : List Line) (closed : Bool) (old new : Trial) : Type 0 where
-  pub going : may_go old ≡ true → Ends lines closed old new
+pub record TakesEnd (book : BookContents) (closed : Bool) (old new : Trial) : Type 0 where
+  pub going : may_go old ≡ true → Ends book closed old new
   pub over : may_go old ≡ false → new ≡ old
 
 -- a point, or a leaf, is closed, or comes after one that isn't
@@ -130,14 +129,14 @@ abbrev pub closed_leaf : CaseContents → Trial → Leaf → Bool
 closed_leaf case trial leaf = is_some trial.weak || is_closed_leaf case trial.claim trial.walk.ranges leaf
 
 -- a proper split came
-pub record SplitsWell (lines : List Line) (line at : ℕ) (old new : Trial) : Type 0 where
+pub record SplitsWell (book : BookContents) (part : Part) (at : ℕ) (old new : Trial) : Type 0 where
   pub rest : new ≡ record old { nodes = old.nodes + 1; walk = new.walk }
-  pub goes : GoesOn lines (narrowed lines old.walk.ranges line at false ∷ narrowed lines old.walk.ranges line at true ∷ after_subtree lines old.walk) old new
+  pub goes : GoesOn book (narrowed book old.walk.ranges part at false ∷ narrowed book old.walk.ranges part at true ∷ after_subtree book old.walk) old new
 
 -- a split came, where nodes still matter: the first that isn't proper is a reason
-pub record TakesSplit (lines : List Line) (line at : ℕ) (old new : Trial) : Type 0 where
-  pub going : may_go old ≡ true → is_proper old.walk.ranges line at ≡ true → SplitsWell lines line at old new
-  pub bad : may_go old ≡ true → is_proper old.walk.ranges line at ≡ false → new ≡ record old { nodes = old.nodes + 1; reason = Some (reason.BadSplit (old.nodes + 1)) }
+pub record TakesSplit (book : BookContents) (part : Part) (at : ℕ) (old new : Trial) : Type 0 where
+  pub going : may_go old ≡ true → is_proper old.walk.ranges part at ≡ true → SplitsWell book part at old new
+  pub bad : may_go old ≡ true → is_proper old.walk.ranges part at ≡ false → new ≡ record old { nodes = old.nodes + 1; reason = Some (reason.BadSplit (old.nodes + 1)) }
   pub over : may_go old ≡ false → new ≡ old
 
 -- ---- the verdict, where the certificate is whole

@@ -13,7 +13,7 @@ use escrow_desk::NoMemory;
 use std::alloc::Global;
 use std::marker::Model;
 
-/// A checker of a certificate of either version for a case, in pieces. Contracts see the case, what was heard of the certificate,
+/// A checker of a certificate of any version for a case, in pieces. Contracts see the case, what was heard of the certificate,
 /// and whether memory ran out.
 #[derive(Drop)]
 pub struct Checker<'a> {
@@ -35,8 +35,7 @@ impl<'a> Model for Checker<'a> {
 
 impl<'a> Checker<'a> {
     /// A checker of a certificate for a case, which has heard nothing yet. All memory is taken here, but that of the line of
-    /// the gap, and of rooms for the vectors of version 2: for the reader, the portfolio, the ranges, the discount factors and
-    /// the open splits.
+    /// the gap, and of rooms for vectors: for the reader, the portfolio, the ranges, the discount factors and the open splits.
     ///
     /// # Errors
     ///

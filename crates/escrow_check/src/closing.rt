@@ -41,7 +41,7 @@ pub(crate) fn is_closed_leaf(
 ) -> bool
     requires columns { AreColumnsOf (case_view case.now) columns.old }
     requires claim { IsClaim claim }
-    requires ranges { AreTight case.now.book.lines ranges.now }
+    requires ranges { AreTight case.now.book ranges.now }
     requires leaf { IsLeaf (length case.now.book.needs) leaf.now }
     ensures closed { result ≡ is_closed_leaf_of (case_view case.now) claim ranges.now leaf.now }
     ensures columns { columns.new ≡ record columns.old { leaf = leaf.now } }
@@ -54,9 +54,9 @@ pub(crate) fn is_closed_leaf(
     }
 }
 
-// Sets a portfolio to the low ends of ranges.
+// Sets a portfolio to the low ends of the lines' ranges.
 fn put_low_ends(book: &Book, ranges: &Ranges, plan: &mut Plan)
-    requires ranges { length ranges.now ≡ length book.now.lines }
+    requires ranges { length ranges.now.lines ≡ length book.now.lines }
     requires plan { length plan.old ≡ length book.now.lines }
     ensures { plan.new ≡ low_ends ranges.now }
 {
@@ -85,7 +85,7 @@ pub(crate) fn is_closed_point(
     plan: &mut Plan,
 ) -> bool
     requires powers { ArePowersOf (case_view case.now) powers.now }
-    requires ranges { AreTight case.now.book.lines ranges.now }
+    requires ranges { AreTight case.now.book ranges.now }
     requires plan { length plan.old ≡ length case.now.book.lines }
     ensures value { result ≡ is_closed_point_of (case_view case.now) claim ranges.now }
     ensures plan { length plan.new ≡ length case.now.book.lines }

@@ -27,7 +27,7 @@ use escrow_desk::NoMemory;
 use escrow_units::{Cents, Day, GREATEST_INDEX, YieldUnits};
 use fixed_powers::{Powers, Side};
 use offer_book::Book;
-use proof_tree::Leaf;
+use proof_tree::{Leaf, Part};
 use std::alloc::Global;
 use yield_enclosure::YieldAnswer;
 
@@ -174,10 +174,10 @@ impl<'a> Trial<'a> {
 
     // A leaf or a point came, whether closed or not.
     fn end_subtree(&mut self, case: &Case, closed: bool)
-        requires walk { IsWalk case.now.book.lines self.old.walk }
+        requires walk { IsWalk case.now.book self.old.walk }
         requires going { self.old.walk.over ≡ false }
         requires count { self.old.nodes < MOST_NODES }
-        ensures { Ends case.now.book.lines closed self.old self.new }
+        ensures { Ends case.now.book closed self.old self.new }
     {
         self.nodes += 1;
         if self.weak.is_none() && !closed {
@@ -186,17 +186,17 @@ impl<'a> Trial<'a> {
         self.walk.close(&case.book);
     }
 
-    /// A split.
-    pub fn take_split(&mut self, case: &Case, line: u16, at: u64)
+    /// A split of a line or of a sum.
+    pub fn take_split(&mut self, case: &Case, part: Part, at: u64)
         requires { IsReady (case_view case.now) self.old }
-        ensures { TakesSplit case.now.book.lines line at self.old self.new }
+        ensures { TakesSplit case.now.book part at self.old self.new }
     {
         if !self.goes_on() {
             return;
         }
         self.nodes += 1;
-        if self.walk.ranges.proper(line, at) {
-            self.walk.split(&case.book, line, at);
+        if self.walk.ranges.proper(part, at) {
+            self.walk.split(&case.book, part, at);
         } else {
             self.reason = Some(Reason::BadSplit(self.nodes));
         }
@@ -205,7 +205,7 @@ impl<'a> Trial<'a> {
     /// A point.
     pub fn take_point(&mut self, case: &Case)
         requires { IsReady (case_view case.now) self.old }
-        ensures { TakesEnd case.now.book.lines (closed_point (case_view case.now) self.old) self.old self.new }
+        ensures { TakesEnd case.now.book (closed_point (case_view case.now) self.old) self.old self.new }
     {
         if !self.goes_on() {
             return;
@@ -225,7 +225,7 @@ impl<'a> Trial<'a> {
     pub fn take_leaf(&mut self, case: &Case, leaf: &Leaf, vector: usize)
         requires ready { IsReady (case_view case.now) self.old }
         requires leaf { IsLeaf (length case.now.book.needs) leaf.now }
-        ensures { TakesEnd case.now.book.lines (closed_leaf (case_view case.now) self.old leaf.now) self.old self.new }
+        ensures { TakesEnd case.now.book (closed_leaf (case_view case.now) self.old leaf.now) self.old self.new }
     {
         if !self.goes_on() {
             return;
@@ -265,7 +265,7 @@ impl<'a> Trial<'a> {
             Item::Portfolio(Some(_)) => self.take_portfolio(),
             Item::Buy(buy) => self.take_buy(case, buy),
             Item::Gap(cents) => self.take_gap(alloc, case, cents)?,
-            Item::Split { line, at } => self.take_split(case, line, at),
+            Item::Split { part, at } => self.take_split(case, part, at),
             Item::Point => self.take_point(case),
             Item::Leaf => self.take_leaf(case, leaf, vector),
             Item::Vectors(count) => self.columns.add_rooms(alloc, count),

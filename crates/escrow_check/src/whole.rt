@@ -13,7 +13,7 @@ use std::alloc::Global;
 // The most bytes of a piece.
 const PIECE: usize = 65_536;
 
-/// The verdict on the text of a certificate, of either version, for a case, and what it means: a yes with a portfolio that the
+/// The verdict on the text of a certificate, of any version, for a case, and what it means: a yes with a portfolio that the
 /// portfolio is right, one without that there is no rival, and a no that the reason that it gives stands, and none before it.
 ///
 /// # Errors

@@ -10,7 +10,7 @@ use Rattle.offer_book.specs.Portfolio.{IsPermitted}
 -- the halving tree of a case has no more nodes than the budget
 pub record CoversTree (case : CaseContents) : Type 0 where
   pub tree : Splits
-  pub halving : IsHalvingTree case (root_of case.book.lines) tree
+  pub halving : IsHalvingTree case (root_of case.book) tree
   pub enough : node_count tree ≤ case.budget
 
 -- the budget is at least twice the number of permitted portfolios: twice the length of a list of them all

@@ -9,7 +9,7 @@ use certificate_packing::pack;
 use escrow_desk::NoMemory;
 use std::alloc::Global;
 
-/// The text of version 2 of a certificate, whose leaves share their prices.
+/// The text of a certificate, whose leaves share their prices: of version 2, or of version 3 where that can't say it.
 ///
 /// # Errors
 ///

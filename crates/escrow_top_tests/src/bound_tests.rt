@@ -11,7 +11,7 @@ use escrow_units::{GREATEST_INDEX, YieldUnits};
 use fixed_powers::{Powers, Side};
 use node_ranges::{Ranges, range_laws};
 use offer_book::Book;
-use proof_tree::{Leaf, TreeNode};
+use proof_tree::{Leaf, Part, TreeNode};
 use std::alloc::Global;
 use std::process::Abort;
 use std::test::Fail;
@@ -51,14 +51,15 @@ fn case_of(rt: &impl Abort, alloc: Global, inputs: &Inputs<'_>) -> Result<Case, 
 
 // The ranges at the end of a way from the root.
 fn ranges_at(rt: &impl Abort, alloc: Global, book: &Book, way: &[Step]) -> Result<Ranges, Fail>
-    ensures { IfOk result (λ ranges. AreTight book.now.lines ranges) }
+    ensures { IfOk result (λ ranges. AreTight book.now ranges) }
 {
     range_laws();
     let _lines = book.line_count();
     let mut ranges = Ranges::root(alloc, book)?;
     for step in way {
-        assert!(rt; ranges.proper(step.line, step.at));
-        ranges.narrow(book, step.line, step.at, step.right);
+        let line = Part::Line(step.line);
+        assert!(rt; ranges.proper(line, step.at));
+        ranges.narrow(book, line, step.at, step.right);
     }
     Ok(ranges)
 }
@@ -73,7 +74,7 @@ fn is_bound(
     expected: i128,
 ) -> Result<(), Fail>
     requires leaf { IsLeaf (length case.now.book.needs) leaf.now }
-    requires tight { AreTight case.now.book.lines ranges.now }
+    requires tight { AreTight case.now.book ranges.now }
 {
     assert!(rt; 1 <= case.limit.0 && case.limit.0 <= 3_000_000_000);
     let limit = YieldUnits(case.limit.0 - 1);

@@ -5,7 +5,7 @@ ghost use Rattle.proof_tree.specs.Tree.{IsLeaf, IsNode};
 use bound_certificate::{MOST_DATES, read_cert};
 use figure_sheets::Unread;
 use offer_book::Book;
-use proof_tree::{Leaf, PRICE_SCALE, TreeNode};
+use proof_tree::{Leaf, PRICE_SCALE, Side, SumWeight, TreeNode};
 use std::alloc::{AllocError, Global};
 
 // The text of a certificate of one leaf alone.
@@ -79,7 +79,26 @@ fn weight_text(alloc: Global, rho: u64) -> Result<String, AllocError> {
     }
 }
 
-/// The words of a leaf: the weight of the cost, as 1, 0 or a fraction, the multiplier of the limit, and the prices.
+// Adds the weights of sums, where there are any: the word `t`, and need date, side and weight of each.
+fn push_weights(alloc: Global, text: &mut String, weights: &[SumWeight]) -> Result<(), AllocError> {
+    if weights.is_empty() {
+        return Ok(());
+    }
+    text.push_str(" t")?;
+    for own in weights {
+        let date = u32::from(own.sum) + 1;
+        let side = match own.side {
+            Side::AtMost => 0,
+            Side::AtLeast => 1,
+        };
+        let words = format!(in alloc; " {date} {side} {}", own.weight)?;
+        text.push_str(words.as_str())?;
+    }
+    Ok(())
+}
+
+/// The words of a leaf: the weight of the cost, as 1, 0 or a fraction, the multiplier of the limit, the prices, and as the tail of its line the
+/// weights of sums.
 ///
 /// # Errors
 ///
@@ -92,5 +111,6 @@ pub fn leaf_text(alloc: Global, leaf: &Leaf) -> Result<String, AllocError> {
         let price = format!(in alloc; " {price}")?;
         text.push_str(price.as_str())?;
     }
+    push_weights(alloc, &mut text, leaf.weights.as_slice())?;
     Ok(text)
 }

@@ -5,6 +5,7 @@ ghost use Rattle.node_ranges.specs.Ranges.{AreTight};
 use figure_sheets::Unread;
 use node_ranges::{Ranges, range_laws};
 use offer_book::Book;
+use proof_tree::Part;
 use std::alloc::Global;
 
 // A side of a split of a line's interval.
@@ -38,7 +39,7 @@ pub fn is_side(word: &str) -> bool {
 
 // The ranges of the root, which are tight.
 fn root_ranges(alloc: Global, book: &Book) -> Result<Ranges, Unread>
-    ensures { IfOk result (λ ranges. AreTight book.now.lines ranges) }
+    ensures { IfOk result (λ ranges. AreTight book.now ranges) }
 {
     range_laws();
     let _lines = book.line_count();
@@ -50,12 +51,12 @@ fn root_ranges(alloc: Global, book: &Book) -> Result<Ranges, Unread>
 
 // Goes to a side of a split.
 fn go_down(book: &Book, ranges: &mut Ranges, word: &str) -> Result<(), Unread>
-    requires { AreTight book.now.lines ranges.old }
-    ensures { AreTight book.now.lines ranges.new }
+    requires { AreTight book.now ranges.old }
+    ensures { AreTight book.now ranges.new }
 {
     match side_of(word) {
-        Some(side) if ranges.proper(side.line, side.at) => {
-            ranges.narrow(book, side.line, side.at, side.right);
+        Some(side) if ranges.proper(Part::Line(side.line), side.at) => {
+            ranges.narrow(book, Part::Line(side.line), side.at, side.right);
             Ok(())
         }
         _ => Err(Unread::Argument),
@@ -68,7 +69,7 @@ fn go_down(book: &Book, ranges: &mut Ranges, word: &str) -> Result<(), Unread>
 ///
 /// `Argument` where a word is none of a side of a proper split, and `NoMemory` where memory ran out.
 pub fn ranges_of(alloc: Global, book: &Book, sides: &[&str]) -> Result<Ranges, Unread>
-    ensures { IfOk result (λ ranges. AreTight book.now.lines ranges) }
+    ensures { IfOk result (λ ranges. AreTight book.now ranges) }
 {
     let mut ranges = root_ranges(alloc, book)?;
     for side in sides {

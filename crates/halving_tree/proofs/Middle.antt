@@ -1,11 +1,12 @@
 -- The middle of the widest line is a proper place to split.
-use Rattle.std.proofs.Common.{◌≡◌, ◌∙◌, inl, inr, ℕ, zero, suc, ◌+◌, ◌-◌, ◌*◌, ◌/◌, ◌<◌, ◌≤◌, List, [], ◌∷◌, length, get_or, refl, sym, ap, subst, arith, true, false, Bool, ◌&&◌, ◌==◌, ℤ}
+use Rattle.std.proofs.Common.{◌≡◌, ◌∙◌, inl, inr, ℕ, zero, suc, ◌+◌, ◌-◌, ◌*◌, ◌/◌, ◌<◌, ◌≤◌, List, [], ◌∷◌, length, get_or, refl, sym, ap, arith, true, false, Bool, ◌&&◌, ◌==◌}
 use Rattle.std.proofs.Math.Nat.{le-mul_of_pos_right}
 use Rattle.std.proofs.lemmas.Bool.Decides.{nat_tests}
 use Rattle.std.specs.Prelude.{IsTrue, nat_le, nat_lt}
 use Rattle.node_ranges.proofs.RangeFacts.{proper-at, tight-at, tight-length}
 use Rattle.dual_bound.proofs.Soundness.{all-lines}
-use Rattle.node_ranges.specs.Ranges.{AreTight, is_proper, is_single}
+use Rattle.std.specs.List.{AllZip}
+use Rattle.node_ranges.specs.Ranges.{IsTight, are_single, splits}
 use Rattle.proof_tree.specs.declared.interval.Interval.{Interval}
 use Rattle.offer_book.specs.Book.{AreLines, BookContents, IsBook, IsLine}
 use Rattle.offer_book.specs.CaseBook.{cash_line}
@@ -22,13 +23,13 @@ record Several (ranges : List Interval) : Type 0 where
   there : place < length ranges
   apart : (get_or ranges place no_interval).low ≡ (get_or ranges place no_interval).high → ⊥
 
-several : (ranges : List Interval) → is_single ranges ≡ false → Several ranges
+several : (ranges : List Interval) → are_single ranges ≡ false → Several ranges
 several [] more = absurd (cc)
 several (interval ∷ ranges) more = by (interval.low == interval.high) refl (λ open_later. several ranges open_later)
   where
-    by : (b : Bool) → (interval.low == interval.high) ≡ b → (is_single ranges ≡ false → Several ranges) → Several (interval ∷ ranges)
+    by : (b : Bool) → (interval.low == interval.high) ≡ b → (are_single ranges ≡ false → Several ranges) → Several (interval ∷ ranges)
     by true same rest =
-        let later = rest (sym (ap (λ (b : Bool). b && is_single ranges) same) ∙ more) in
+        let later = rest (sym (ap (λ (b : Bool). b && are_single ranges) same) ∙ more) in
         record { place = suc later.place; there = omega arith; apart = later.apart }
     by false other rest = record { place = 0; there = omega arith; apart = λ same. grind (arith, nat_tests) }
 
@@ -40,7 +41,7 @@ step-some days line is = elim is [
 ]
 
 -- the widest of several intervals has some width
-some-width : (book : BookContents) (ranges : List Interval) (line : ℕ) → IsBook book → AreTight book.lines ranges → is_single ranges ≡ false → IsWidest book.lines ranges line
+some-width : (book : BookContents) (ranges : List Interval) (line : ℕ) → IsBook book → AllZip IsTight book.lines ranges → are_single ranges ≡ false → IsWidest book.lines ranges line
     → (get_or ranges line no_interval).low < (get_or ranges line no_interval).high
 some-width book ranges line limits tight more widest =
     let found = several ranges more in
@@ -63,8 +64,8 @@ some-width book ranges line limits tight more widest =
 widths : (low high at : ℕ) → low < high → at ≡ (low + high) / 2 → (low ≤ at) × (at < high)
 widths low high at some is = (omega (arith, some, is), omega (arith, some, is))
 
-pub halved-proper : (book : BookContents) (ranges : List Interval) (line at : ℕ) → IsBook book → AreTight book.lines ranges → is_single ranges ≡ false → IsHalved book.lines ranges line at
-    → IsTrue (is_proper ranges line at)
+pub halved-proper : (book : BookContents) (ranges : List Interval) (line at : ℕ) → IsBook book → AllZip IsTight book.lines ranges → are_single ranges ≡ false → IsHalved book.lines ranges line at
+    → IsTrue (splits ranges line at)
 halved-proper book ranges line at limits tight more is =
     let both = widths (get_or ranges line no_interval).low (get_or ranges line no_interval).high at (some-width book ranges line limits tight more is.widest) is.middle in
     proper-at ranges line at no_interval is.widest.there ∙ tests (get_or ranges line no_interval).low (get_or ranges line no_interval).high at both.0 both.1
@@ -81,7 +82,7 @@ lines-some days (line ∷ lines) are = omega arith
 middle-same : (low high : ℕ) → low ≤ high → low + (high - low) / 2 ≡ (low + high) / 2
 middle-same low high ordered = omega arith
 
-pub middle-is : (lines : List Line) (ranges items : List Interval) (line place : ℕ) → AreTight lines ranges → line < length ranges → items ≡ ranges → place ≡ line
+pub middle-is : (lines : List Line) (ranges items : List Interval) (line place : ℕ) → AllZip IsTight lines ranges → line < length ranges → items ≡ ranges → place ≡ line
     → (get_or items place no_interval).low + ((get_or items place no_interval).high - (get_or items place no_interval).low) / 2 ≡ middle_at ranges line
 middle-is lines ranges items line place tight few same at =
     let own : get_or items place no_interval ≡ get_or ranges line no_interval = (λ i. get_or (same i) (at i) no_interval) in

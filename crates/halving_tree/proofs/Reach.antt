@@ -1,5 +1,5 @@
 -- The leaf that weighs needs alone keeps the limits of a leaf.
-use Rattle.std.proofs.Common.{◌≡◌, ◌∙◌, ℕ, ◌+◌, ◌*◌, ◌<◌, ◌≤◌, List, [], ◌∷◌, length, map, get_or, refl, sym, ap, arith, Bool, true, false, if◌then◌else◌, ℤ, ◌<ℤ◌}
+use Rattle.std.proofs.Common.{◌≡◌, ℕ, ◌*◌, ◌<◌, ◌≤◌, List, length, map, get_or, refl, arith, Bool, true, false, if◌then◌else◌, ℤ, ◌<ℤ◌}
 use Rattle.std.specs.Prelude.{int_le}
 use Rattle.std.proofs.lemmas.Int.{ints}
 use Rattle.std.proofs.lemmas.List.{get_or-map, length-map}
@@ -42,4 +42,5 @@ reach_is_leaf needs day rising = record {
       let one : get_or (map (reach_price day) needs) j d ≡ reach_price day (get_or needs j none) = get_or-map (reach_price day) needs j none d (omega arith) in
       let other : get_or (map (reach_price day) needs) k d ≡ reach_price day (get_or needs k none) = get_or-map (reach_price day) needs k none d within in
       omega (arith, one, other, price-falls day (get_or needs j none) (get_or needs k none) (rising j k none lt within));
+  weights = record { few = omega arith; each = λ k d few. absurd (omega (arith, few)); rising = λ j k d lt few. absurd (omega (arith, few)) };
 }

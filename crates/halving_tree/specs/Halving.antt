@@ -8,10 +8,11 @@ use Rattle.case_file.specs.Case.{CaseContents}
 use Rattle.cash_table.specs.First.{first_short_of}
 use Rattle.cash_table.specs.Points.{is_within_limit}
 use Rattle.dual_bound.specs.LeafBound.{bound_of, least_cost_of}
-use Rattle.node_ranges.specs.Ranges.{is_single, narrowed, root_of}
+use Rattle.node_ranges.specs.Ranges.{RangesContents, is_single, narrowed, root_of}
 use Rattle.node_ranges.specs.Claims.{Claim, bears_out}
 use Rattle.proof_tree.specs.declared.interval.Interval.{Interval}
-use Rattle.offer_book.specs.Book.{BookContents, IsBook}
+use Rattle.proof_tree.specs.declared.tree.Part.TheVariants as parts
+use Rattle.offer_book.specs.Book.{IsBook}
 use Rattle.offer_book.specs.CaseBook.{cash_line}
 use Rattle.offer_book.specs.Portfolio.{IsPermitted, cost}
 use Rattle.offer_book.specs.declared.line.Line.{Line}
@@ -29,24 +30,24 @@ abbrev pub backward_claim : CaseContents → Claim
 backward_claim case = claim_within case (backward_plan case.book)
 
 -- the base leaf bears that claim out over ranges
-abbrev pub is_borne_out : CaseContents → List Interval → Bool
+abbrev pub is_borne_out : CaseContents → RangesContents → Bool
 is_borne_out case ranges = bears_out (least_cost_of (case.limit - 1) case.book ranges (base_leaf case.book)) (backward_claim case)
 
--- the portfolio of the high ends
-abbrev pub high_ends : List Interval → List ℕ
-high_ends ranges = map (λ interval. interval.high) ranges
+-- the portfolio of the lines' high ends
+abbrev pub high_ends : RangesContents → List ℕ
+high_ends ranges = map (λ interval. interval.high) ranges.lines
 
 -- a day up to which the needs alone are more than all that ranges can pay by then
-abbrev pub is_short_by : CaseContents → List Interval → Option ℤ → Bool
+abbrev pub is_short_by : CaseContents → RangesContents → Option ℤ → Bool
 is_short_by case ranges None = false
 is_short_by case ranges (Some day) = int_lt (pos 0) (bound_of (case.limit - 1) case.book ranges (reach_leaf case.book.needs day))
 
 -- even the high ends are short, and that shows on their first short day
-abbrev pub is_unreached : CaseContents → List Interval → Bool
+abbrev pub is_unreached : CaseContents → RangesContents → Bool
 is_unreached case ranges = is_short_by case ranges (first_short_of case.book (high_ends ranges))
 
 -- a node is an end where its ranges hold one portfolio, the base leaf bears the backward plan out, or the needs aren't reached
-abbrev pub is_end : CaseContents → List Interval → Bool
+abbrev pub is_end : CaseContents → RangesContents → Bool
 is_end case ranges = is_single ranges || (is_borne_out case ranges || is_unreached case ranges)
 
 -- ---- where another node is split
@@ -56,7 +57,7 @@ width_at lines ranges line =
     ((slice_index_or ranges line (record { low = 0; high = 0 })).high - (slice_index_or ranges line (record { low = 0; high = 0 })).low)
     * (slice_index_or lines line (cash_line 0)).step
 
--- of the lines of ranges, the first of the greatest width
+-- of the lines, the first of the greatest width
 pub record IsWidest (lines : List Line) (ranges : List Interval) (line : ℕ) : Type 0 where
   pub there : line < length ranges
   pub greatest : (other : ℕ) → other < length ranges → width_at lines ranges other ≤ width_at lines ranges line
@@ -84,35 +85,35 @@ node_count End = 1
 node_count (Split line at left right) = 1 + (node_count left + node_count right)
 
 -- the halving tree of ranges: each end is one, and each other node is halved
-abbrev pub IsHalvingTree : CaseContents → List Interval → Splits → Type 0
+abbrev pub IsHalvingTree : CaseContents → RangesContents → Splits → Type 0
 IsHalvingTree case ranges End = is_end case ranges ≡ true
 IsHalvingTree case ranges (Split line at left right) =
-    (is_end case ranges ≡ false) × IsHalved case.book.lines ranges line at
-    × IsHalvingTree case (narrowed case.book.lines ranges line at false) left × IsHalvingTree case (narrowed case.book.lines ranges line at true) right
+    (is_end case ranges ≡ false) × IsHalved case.book.lines ranges.lines line at
+    × IsHalvingTree case (narrowed case.book ranges (parts.Line line) at false) left × IsHalvingTree case (narrowed case.book ranges (parts.Line line) at true) right
 
 -- an upper part of it: each of its splits is one of the halving tree, which may go on below its ends
-abbrev pub IsUpperPart : CaseContents → List Interval → Splits → Type 0
+abbrev pub IsUpperPart : CaseContents → RangesContents → Splits → Type 0
 IsUpperPart case ranges End = Unit {0}
 IsUpperPart case ranges (Split line at left right) =
-    (is_end case ranges ≡ false) × IsHalved case.book.lines ranges line at
-    × IsUpperPart case (narrowed case.book.lines ranges line at false) left × IsUpperPart case (narrowed case.book.lines ranges line at true) right
+    (is_end case ranges ≡ false) × IsHalved case.book.lines ranges.lines line at
+    × IsUpperPart case (narrowed case.book ranges (parts.Line line) at false) left × IsUpperPart case (narrowed case.book ranges (parts.Line line) at true) right
 
 -- the halving tree of a case has more nodes than so many: an upper part of it has
 pub record HasMoreNodes (case : CaseContents) (budget : ℕ) : Type 0 where
   pub part : Splits
-  pub upper : IsUpperPart case (root_of case.book.lines) part
+  pub upper : IsUpperPart case (root_of case.book) part
   pub more : budget < node_count part
 
 -- ---- laws
 -- no upper part of the halving tree has more nodes than the tree
 abbrev pub PartsAreWithin : Type 0
 PartsAreWithin =
-    (case : CaseContents) (part tree : Splits) → IsUpperPart case (root_of case.book.lines) part → IsHalvingTree case (root_of case.book.lines) tree
+    (case : CaseContents) (part tree : Splits) → IsUpperPart case (root_of case.book) part → IsHalvingTree case (root_of case.book) tree
     → node_count part ≤ node_count tree
 
 -- the halving tree has fewer nodes than twice the number of permitted portfolios: than twice the length of each list of them all
 abbrev pub PartsAreFew : Type 0
 PartsAreFew =
-    (case : CaseContents) (part : Splits) → IsBook case.book → IsUpperPart case (root_of case.book.lines) part
+    (case : CaseContents) (part : Splits) → IsBook case.book → IsUpperPart case (root_of case.book) part
     → (portfolios : List (List ℕ)) → ((plan : List ℕ) → IsPermitted case.book plan → Contains portfolios plan)
     → node_count part < 2 * length portfolios

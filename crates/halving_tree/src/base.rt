@@ -42,6 +42,7 @@ pub fn put_reach(book: &Book, day: Day, leaf: &mut Leaf)
 {
     leaf.rho = 0;
     leaf.mu = 0;
+    leaf.weights.clear();
     for place in 0..book.need_count() {
         let need = book.need(place);
         leaf.prices.put(place, reach_price(day, need.day));

@@ -1,8 +1,8 @@
 -- The way to a node, and its ranges. This is this project's own.
 use Rattle.std.specs.Prelude.{◌≡◌, ℕ, Bool, ◌==◌, if◌then◌else◌, IsTrue, List, [], ◌∷◌}
-use Rattle.offer_book.specs.declared.line.Line.{Line}
-use Rattle.proof_tree.specs.declared.interval.Interval.{Interval}
-use Rattle.node_ranges.specs.Ranges.{is_proper, narrowed, root_of}
+use Rattle.offer_book.specs.Book.{BookContents}
+use Rattle.proof_tree.specs.declared.tree.Part.TheVariants.{Line}
+use Rattle.node_ranges.specs.Ranges.{RangesContents, is_proper, narrowed, root_of}
 use Rattle.node_pool.specs.declared.node.NodeId.{NodeId}
 use Rattle.node_pool.specs.declared.node.State.{State}
 use Rattle.node_pool.specs.declared.node.State.TheVariants as state
@@ -27,17 +27,17 @@ IsWay states node [] = node ≡ 0
 IsWay states node (step ∷ above) = (parent : ℕ) × IsStep states node parent step × IsWay states parent above
 
 -- the ranges of a node: the root's, narrowed by the splits on its way from the root
-abbrev pub ranges_at : List Line → List Step → List Interval
-ranges_at lines [] = root_of lines
-ranges_at lines (step ∷ above) = narrowed lines (ranges_at lines above) step.line step.at step.right
+abbrev pub ranges_at : BookContents → List Step → RangesContents
+ranges_at book [] = root_of book
+ranges_at book (step ∷ above) = narrowed book (ranges_at book above) (Line step.line) step.at step.right
 
 -- each of them is proper in the ranges of its node
-abbrev pub AreProper : List Line → List Step → Type 0
-AreProper lines [] = Unit {0}
-AreProper lines (step ∷ above) = AreProper lines above × IsTrue (is_proper (ranges_at lines above) step.line step.at)
+abbrev pub AreProper : BookContents → List Step → Type 0
+AreProper book [] = Unit {0}
+AreProper book (step ∷ above) = AreProper book above × IsTrue (is_proper (ranges_at book above) (Line step.line) step.at)
 
 -- ranges with one split more, where it is proper in them
-abbrev pub narrowed_by : List Line → List Interval → State → ℕ → List Interval
-narrowed_by lines ranges (state.Split line at left right) child =
-    if is_proper ranges line at then narrowed lines ranges line at (right.0 == child) else ranges
-narrowed_by lines ranges other child = ranges
+abbrev pub narrowed_by : BookContents → RangesContents → State → ℕ → RangesContents
+narrowed_by book ranges (state.Split line at left right) child =
+    if is_proper ranges (Line line) at then narrowed book ranges (Line line) at (right.0 == child) else ranges
+narrowed_by book ranges other child = ranges

@@ -7,7 +7,7 @@ ghost use Rattle.std.specs.List.{count_by};
 ghost use Rattle.node_pool.specs.declared.node.State.TheVariants as state;
 ghost use Rattle.node_pool.specs.Pool.{IsInHand, IsLeast, IsOneTree, NoneWaits, SplitsAreWhole, is_waiting, new_pool, pool_with, split_pool};
 ghost use Rattle.node_pool.specs.Tree.{AreEnded, IsPreorderOf};
-ghost use Rattle.node_ranges.specs.Ranges.{AreTight};
+ghost use Rattle.node_ranges.specs.Ranges.{AreTight, root_of};
 ghost use Rattle.node_pool.specs.Way.{AreProper, IsWay, Step, ranges_at};
 
 use crate::node::{Full, Link, Links, Node, NodeId, State};
@@ -187,15 +187,17 @@ impl Pool {
         set_state(self.nodes.as_mut_slice(), node, State::Closed(leaf));
     }
 
-    /// Goes to the ranges of a node: those of the root, narrowed by the splits on its way, left and right. It takes no memory. The
-    /// splits on the way are proper for this book, and there is an interval for each of its lines.
-    pub fn box_of(&self, node: NodeId, book: &Book, into: &mut Ranges)
-        requires way { (way : List Step) × IsWay self.now.states node.0 way × AreProper book.now.lines way }
-        requires lines { length into.old ≡ length book.now.lines }
-        ensures value { (way : List Step) → IsWay self.now.states node.0 way → AreProper book.now.lines way → into.new ≡ ranges_at book.now.lines way }
-        ensures tight { AreTight book.now.lines into.new }
+    /// Goes to the ranges of a node: those of the root, which are given, narrowed by the splits on its way, left and right. It takes no
+    /// memory. The splits on the way are proper for this book, and there are as many intervals as at the root.
+    pub fn box_of(&self, node: NodeId, book: &Book, root: &Ranges, into: &mut Ranges)
+        requires way { (way : List Step) × IsWay self.now.states node.0 way × AreProper book.now way }
+        requires root { root.now ≡ root_of book.now }
+        requires lines { length into.old.lines ≡ length root.now.lines }
+        requires sums { length into.old.sums ≡ length root.now.sums }
+        ensures value { (way : List Step) → IsWay self.now.states node.0 way → AreProper book.now way → into.new ≡ ranges_at book.now way }
+        ensures tight { AreTight book.now into.new }
     {
-        narrow_up(self.nodes.as_slice(), node, book, into);
+        narrow_up(self.nodes.as_slice(), node, book, root, into);
     }
 
     /// How many nodes there are, the root at least. They are one tree: each but the root is a child of exactly one split, and

@@ -9,13 +9,14 @@ ghost use Rattle.node_pool.specs.Way.{AreProper, IsWay, Step, narrowed_by, range
 use crate::node::{Node, NodeId, State};
 use node_ranges::{Ranges, range_laws};
 use offer_book::Book;
+use proof_tree::Part;
 
 // Goes to the side of a split on which a child is, where the split is proper in these ranges; where it isn't, ranges further down
 // have narrowed that end already.
 fn narrow_by(state: State, child: NodeId, book: &Book, into: &mut Ranges)
-    requires { AreTight book.now.lines into.old }
-    ensures value { into.new ≡ narrowed_by book.now.lines into.old state child.0 }
-    ensures tight { AreTight book.now.lines into.new }
+    requires { AreTight book.now into.old }
+    ensures value { into.new ≡ narrowed_by book.now into.old state child.0 }
+    ensures tight { AreTight book.now into.new }
 {
     if let State::Split {
         line,
@@ -24,21 +25,25 @@ fn narrow_by(state: State, child: NodeId, book: &Book, into: &mut Ranges)
         ..
     } = state
     {
-        if into.proper(line, at) {
-            into.narrow(book, line, at, right.0 == child.0);
+        let part = Part::Line(line);
+        if into.proper(part, at) {
+            into.narrow(book, part, at, right.0 == child.0);
         }
     }
 }
 
 // Goes back to the ranges of the root.
-fn reset(book: &Book, into: &mut Ranges)
-    requires { length into.old ≡ length book.now.lines }
-    ensures value { into.new ≡ root_of book.now.lines }
-    ensures tight { AreTight book.now.lines into.new }
+fn go_to_root(book: &Book, root: &Ranges, into: &mut Ranges)
+    requires root { root.now ≡ root_of book.now }
+    requires lines { length into.old.lines ≡ length root.now.lines }
+    requires sums { length into.old.sums ≡ length root.now.sums }
+    ensures value { into.new ≡ root_of book.now }
+    ensures tight { AreTight book.now into.new }
 {
     range_laws();
-    let _lines = book.line_count();
-    into.reset(book);
+    // A book keeps its limits.
+    prove!(book.line_count() > 0);
+    into.copy(root);
 }
 
 // The parent of a node.
@@ -57,17 +62,19 @@ fn state_of(nodes: &[Node], node: NodeId) -> State
     nodes[node.0 as usize].state
 }
 
-/// Goes to the ranges of a node.
-pub(crate) fn narrow_up(nodes: &[Node], node: NodeId, book: &Book, into: &mut Ranges)
+/// Goes to the ranges of a node; those of the root are given.
+pub(crate) fn narrow_up(nodes: &[Node], node: NodeId, book: &Book, root: &Ranges, into: &mut Ranges)
     requires whole { SplitsAreWhole (states_of nodes.now) }
     requires parents { AreParents nodes.now }
-    requires way { (way : List Step) × IsWay (states_of nodes.now) node.0 way × AreProper book.now.lines way }
-    requires lines { length into.old ≡ length book.now.lines }
-    ensures value { (way : List Step) → IsWay (states_of nodes.now) node.0 way → AreProper book.now.lines way → into.new ≡ ranges_at book.now.lines way }
-    ensures tight { AreTight book.now.lines into.new }
+    requires way { (way : List Step) × IsWay (states_of nodes.now) node.0 way × AreProper book.now way }
+    requires root { root.now ≡ root_of book.now }
+    requires lines { length into.old.lines ≡ length root.now.lines }
+    requires sums { length into.old.sums ≡ length root.now.sums }
+    ensures value { (way : List Step) → IsWay (states_of nodes.now) node.0 way → AreProper book.now way → into.new ≡ ranges_at book.now way }
+    ensures tight { AreTight book.now into.new }
 {
     range_laws();
-    reset(book, into);
+    go_to_root(book, root, into);
     let mut child = node;
     while child.0 != 0 {
         let Some(parent) = parent_of(nodes, child) else {

@@ -1,3 +1,4 @@
 pub mod CostFacts
 pub mod RangeFacts
 pub mod RangeLaws
+pub mod SumFacts

@@ -1,5 +1,5 @@
 -- How great coefficients can be: with units up to a line's most, all that they stand for is at most 10^22 scaled cents.
-use Rattle.std.proofs.Common.{◌≡◌, ℕ, min, zero, suc, ◌+◌, ◌*◌, ◌/◌, ◌%◌, ◌^◌, ◌≤◌, sym, subst, arith, inl, inr, List, [], ◌∷◌, get_or, length, ℤ, Bool, true, false, if◌then◌else◌}
+use Rattle.std.proofs.Common.{◌≡◌, ℕ, min, zero, suc, ◌+◌, ◌*◌, ◌/◌, ◌%◌, ◌^◌, ◌≤◌, sym, subst, arith, inl, inr, List, [], ◌∷◌, get_or, length, Bool, true, false, if◌then◌else◌}
 use Rattle.std.specs.Prelude.{All, sum_by, ◌==◌}
 use Rattle.std.specs.Int.{div_ceil}
 use Rattle.std.specs.List.{AllZip}
@@ -12,7 +12,7 @@ use Rattle.escrow_units.specs.declared.security.Flow.{Flow}
 use Rattle.payment_schedule.specs.Schedule.{flow_by}
 use Rattle.payment_schedule.specs.declared.schedule.ScheduledPayment.{ScheduledPayment}
 use Rattle.market_notes.specs.NoteFlows as notes
-use Rattle.offer_book.specs.Book.{IsLine, IsSecurity, IsSecurityLine}
+use Rattle.offer_book.specs.Book.{IsLine, IsSecurityLine}
 use Rattle.offer_book.specs.Coefficients.{EnclosesPayment, cost_coefficients, interest_slack, kind_costs, pay_by, pay_coefficients}
 use Rattle.offer_book.specs.Portfolio.{line_payments, par}
 use Rattle.offer_book.specs.Schedule.{kind_rate, schedule_of}

@@ -5,3 +5,4 @@ pub mod LineFacts
 pub mod MarketFacts
 pub mod OfferFacts
 pub mod ScheduleFacts
+pub mod SumFacts

@@ -15,7 +15,7 @@ use Rattle.escrow_units.specs.declared.security.Flow.{Flow}
 use Rattle.escrow_units.specs.declared.security.Slgs.{Slgs}
 use Rattle.escrow_units.proofs.SeriesFacts.{years_after_of-none}
 use Rattle.escrow_units.proofs.YearFacts.{years_after_of-passes}
-use Rattle.payment_schedule.specs.Schedule.{IsShort, interest_by}
+use Rattle.payment_schedule.specs.Schedule.{IsShort}
 use Rattle.payment_schedule.proofs.ScheduleFacts.{flows-none, flows_by}
 use Rattle.slgs_interest.specs.Payments.{first_accrual_of, payment_dates, payment_on, slgs_schedule}
 use Rattle.slgs_interest.specs.PaymentLaws.{AreSmall, AreWithinTerm}
@@ -34,7 +34,7 @@ use Rattle.escrow_units.proofs.OpenDayFacts.{open_day-least}
 use Rattle.escrow_units.specs.OpenDays.{Closings, open_day}
 use Rattle.offer_book.specs.Book.{EndsInTime, IsCashLine, IsSecurity, IsSecurityLine, IsLine, IsKindWithoutInterest, IsWithoutInterest, OpensInTime}
 use Rattle.offer_book.specs.Portfolio.{par, kind_cost, line_cost, line_payments}
-use Rattle.offer_book.specs.Schedule.{cash_due, kind_rate, kind_schedule, schedule_of}
+use Rattle.offer_book.specs.Schedule.{kind_rate, kind_schedule, schedule_of}
 use Rattle.offer_book.specs.declared.payment_days.PaymentDays.{PaymentDays}
 
 -- 40 years from a settlement have at least 365 days each

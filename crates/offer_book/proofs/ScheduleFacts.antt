@@ -1,5 +1,5 @@
 -- The schedule of a line.
-use Rattle.std.proofs.Common.{◌≡◌, ℕ, ◌+◌, ◌*◌, ◌/◌, ◌<◌, ◌≤◌, sym, ap, subst, arith, inl, inr, List, [], ◌∷◌, length, ℤ}
+use Rattle.std.proofs.Common.{◌≡◌, ℕ, ◌+◌, ◌*◌, ◌/◌, ◌<◌, sym, ap, subst, arith, inl, inr, [], ◌∷◌, ℤ}
 use Rattle.std.specs.Prelude.{All, map}
 use Rattle.std.specs.Int.{div_ceil}
 use Rattle.std.proofs.Math.Nat.{div-eq_of_lt}

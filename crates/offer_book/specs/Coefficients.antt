@@ -1,7 +1,7 @@
 -- Coefficients of a line: for one unit, what it costs and pays, times a scale, rounded outward to whole numbers.
 -- They are this project's own. Amounts are rounded to the cent over all units at once, so what units cost and pay isn't a
 -- multiple of what one unit does; the coefficients and a slack enclose it for every number of units.
-use Rattle.std.specs.Prelude.{◌≡◌, ℕ, ◌+◌, ◌*◌, ◌/◌, ◌^◌, ◌≤◌, ◌==◌, if◌then◌else◌, List, map, ℤ}
+use Rattle.std.specs.Prelude.{◌≡◌, ℕ, ◌+◌, ◌*◌, ◌/◌, ◌^◌, ◌≤◌, ◌==◌, if◌then◌else◌, List, map}
 use Rattle.std.specs.Int.{div_ceil}
 use Rattle.std.specs.List.{AllZip}
 use Rattle.escrow_units.specs.SlgsTerms.{IsSettlement}

@@ -18,3 +18,4 @@ pub mod Portfolio
 pub mod Rival
 pub mod ScaledInterest
 pub mod Schedule
+pub mod Sums

@@ -9,6 +9,7 @@ mod line;
 mod market;
 mod offers;
 mod payment_days;
+mod sums;
 
 pub use book::Book;
 pub use coefficients::{
@@ -18,3 +19,4 @@ pub use files::{book_laws, make_book};
 pub use line::{Line, LineKind};
 pub use offers::{offer_laws, slgs_lines};
 pub use payment_days::PaymentDays;
+pub use sums::{coarse_step, line_depth, line_depths};

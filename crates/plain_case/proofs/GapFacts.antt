@@ -1,5 +1,5 @@
 -- Plain cases close at the root.
-use Rattle.std.proofs.Common.{◌≡◌, ◌∙◌, ℕ, ◌+◌, ◌-◌, ◌*◌, ◌≤◌, List, [], ◌∷◌, length, refl, ap, arith, ℤ, pos, ◌+ℤ◌, ◌-ℤ◌, ◌*ℤ◌, neg_ℤ, ◌≤ℤ◌, ◌<ℤ◌, All}
+use Rattle.std.proofs.Common.{◌≡◌, ◌∙◌, ℕ, ◌+◌, ◌-◌, ◌*◌, ◌≤◌, List, [], ◌∷◌, length, map, refl, ap, arith, ℤ, pos, ◌+ℤ◌, ◌-ℤ◌, ◌*ℤ◌, neg_ℤ, ◌≤ℤ◌, ◌<ℤ◌, All}
 use Rattle.std.proofs.lemmas.Int.{ints}
 use Rattle.std.proofs.lemmas.List.Elements.{All-head, All-tail, All-weaker}
 use Rattle.std.proofs.lemmas.List.Sums.{sum_by-cons}
@@ -9,8 +9,9 @@ use Rattle.offer_book.specs.Coefficients.{pay_coefficients}
 use Rattle.offer_book.specs.Portfolio.{cost}
 use Rattle.offer_book.specs.declared.coefficients.TheConstants.{COEFFICIENT_SCALE}
 use Rattle.offer_book.specs.declared.line.Line.{Line}
+use Rattle.dual_bound.proofs.BoundSizes.{bound-plain}
 use Rattle.dual_bound.specs.LeafBound.{bound_of, least_within, priced_needs, signed_sum}
-use Rattle.node_ranges.specs.Ranges.{root_of}
+use Rattle.node_ranges.specs.Ranges.{root_of, whole_interval}
 use Rattle.proof_tree.specs.declared.prices.TheConstants.{PRICE_SCALE}
 use Rattle.proof_tree.specs.Tree.{IsLeaf}
 use Rattle.node_ranges.proofs.RangeLaws.{root_holds_all}
@@ -28,7 +29,7 @@ use Rattle.plain_case.proofs.PlanFacts.{plan_worth}
 
 -- the leasts of all lines
 leasts-sum : (n : ℕ) (book : BookContents) (prices : List ℕ) (lines : List Line) → All (IsLeastByRounding n book prices) lines
-    → neg_ℤ (pos (sum_by (root_rounding book) lines)) ≤ℤ signed_sum (λ p. least_within n book (leaf_of_prices prices) p.0 p.1) (zip lines (root_of lines))
+    → neg_ℤ (pos (sum_by (root_rounding book) lines)) ≤ℤ signed_sum (λ p. least_within n book (leaf_of_prices prices) p.0 p.1) (zip lines (map whole_interval lines))
 leasts-sum n book prices [] each = omega (arith, ints)
 leasts-sum n book prices (line ∷ lines) each =
     joined _ _ _ _ _ (All-head (IsLeastByRounding n book prices) line lines each) (leasts-sum n book prices lines (All-tail (IsLeastByRounding n book prices) line lines each)) (sum_by-cons (root_rounding book) line lines)
@@ -50,9 +51,8 @@ unfolding plain_gap
 gap-parts book = refl
 
 bound-parts : (n : ℕ) (book : BookContents) (prices : List ℕ)
-    → bound_of n book (root_of book.lines) (leaf_of_prices prices) ≡ pos (COEFFICIENT_SCALE * priced_needs book.needs prices) +ℤ signed_sum (λ p. least_within n book (leaf_of_prices prices) p.0 p.1) (zip book.lines (root_of book.lines))
-unfolding bound_of
-bound-parts n book prices = refl
+    → bound_of n book (root_of book) (leaf_of_prices prices) ≡ pos (COEFFICIENT_SCALE * priced_needs book.needs prices) +ℤ signed_sum (λ p. least_within n book (leaf_of_prices prices) p.0 p.1) (zip book.lines (root_of book).lines)
+bound-parts n book prices = bound-plain n book (root_of book) (leaf_of_prices prices) refl
 
 -- the whole account
 scaled : (k c g : ℕ) → pos k *ℤ (pos c -ℤ pos g -ℤ pos 1) ≡ pos (k * c) -ℤ pos (k * g) -ℤ pos k
@@ -72,7 +72,7 @@ account c g n l own root gaps least bound plan rounds gap lower is =
 pub plain_gap_holds : PlainGapHolds
 plain_gap_holds limit book limits plain =
     account (cost book plain.plan) (plain_gap book) (priced_needs book.needs plain.prices) (leasts_and_steps book) (sum_by (own_rounding book) book.lines) (sum_by (root_rounding book) book.lines) (sum_by (line_gap book) book.lines)
-    (signed_sum (λ p. least_within (limit - 1) book (leaf_of_prices plain.prices) p.0 p.1) (zip book.lines (root_of book.lines))) (bound_of (limit - 1) book (root_of book.lines) (leaf_of_prices plain.prices))
+    (signed_sum (λ p. least_within (limit - 1) book (leaf_of_prices plain.prices) p.0 p.1) (zip book.lines (root_of book).lines)) (bound_of (limit - 1) book (root_of book) (leaf_of_prices plain.prices))
     (plan_worth limit book limits plain)
     (roundings-sum book book.lines)
     (gap-parts book)
@@ -89,6 +89,7 @@ curve-leaf limit book limits plain =
       every_date = (bootstrapped_fair book plain.prices limits plain.curve).dates;
       range = All-weaker (λ price. price ≤ PRICE_SCALE) (λ price. price ≤ 2 * PRICE_SCALE) (λ price small. omega (arith, small)) plain.prices fall.small;
       falling = fall.falling;
+      weights = record { few = omega arith; each = λ k d few. absurd (omega (arith, few)); rising = λ j k d lt few. absurd (omega (arith, few)) };
     }
 
 nearly : (c g other : ℕ) (bound : ℤ) → (pos (COEFFICIENT_SCALE * PRICE_SCALE) *ℤ (pos c -ℤ pos g -ℤ pos 1)) <ℤ bound → bound ≤ℤ pos (COEFFICIENT_SCALE * (PRICE_SCALE * other)) → c ≤ other + g
@@ -99,6 +100,6 @@ nearly c g other bound below least =
 
 pub nearly_cheapest : PlainPlansAreNearlyCheapest
 nearly_cheapest limit book limits plain other permitted covered =
-    nearly (cost book plain.plan) (plain_gap book) (cost book other) (bound_of (limit - 1) book (root_of book.lines) (leaf_of_prices plain.prices))
+    nearly (cost book plain.plan) (plain_gap book) (cost book other) (bound_of (limit - 1) book (root_of book) (leaf_of_prices plain.prices))
     (plain_gap_holds limit book limits plain)
-    (bounds-all (limit - 1) book (root_of book.lines) (leaf_of_prices plain.prices) limits (curve-leaf limit book limits plain) refl other permitted covered ((root_holds_all book other).0 permitted).within)
+    (bounds-all (limit - 1) book (root_of book) (leaf_of_prices plain.prices) limits (curve-leaf limit book limits plain) refl other permitted covered (let hold = (root_holds_all book other).0 permitted in record { lines = hold.lines.within; sums = hold.sums }))

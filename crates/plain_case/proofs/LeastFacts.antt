@@ -18,10 +18,12 @@ use Rattle.offer_book.specs.declared.line.Line.{Line}
 use Rattle.offer_book.specs.declared.line.LineKind.{LineKind}
 use Rattle.offer_book.specs.declared.line.LineKind.TheVariants.{Cash, Market, Security}
 use Rattle.offer_book.proofs.LineFacts.{line_cost-none, line_payments-none}
-use Rattle.dual_bound.specs.LeafBound.{cost_worth, form_at, form_of, least_side, limit_price, paid_worth, price_on, reduced_cost, signed_sum}
+use Rattle.dual_bound.specs.LeafBound.{cost_worth, form_at, least_side, limit_price, paid_worth, price_on, priced_cost, priced_form, signed_sum}
 use Rattle.dual_bound.specs.declared.form.Form.{Form}
 use Rattle.proof_tree.specs.declared.prices.TheConstants.{PRICE_SCALE}
-use Rattle.dual_bound.proofs.FormFacts.{form_of-is, form_with}
+use Rattle.node_ranges.specs.Ranges.{whole_interval}
+use Rattle.dual_bound.proofs.BoundSizes.{within-plain}
+use Rattle.dual_bound.proofs.FormFacts.{form_with, priced_form-is}
 use Rattle.dual_bound.proofs.Signed.{pos-mul}
 use Rattle.dual_bound.proofs.Sizes.{IsSized, cost-sized, pay_slack, pays-sized, pays_slope}
 use Rattle.backward_build.specs.PlainCase.{AreNoBargains, IsNoBargain}
@@ -91,7 +93,7 @@ form-from slope a b slack units is less =
     omega (arith, ints, product)
 
 form-least : (n : ℕ) (book : BookContents) (prices : List ℕ) (line : Line) (units : ℕ) → IsSettlement book.days.settle → IsLine book.days line → All (λ price. price ≤ PRICE_SCALE) prices → IsNoBargain book prices line
-    → neg_ℤ (pos (root_rounding book line)) ≤ℤ form_at (form_of n book (leaf_of_prices prices) line) units
+    → neg_ℤ (pos (root_rounding book line)) ≤ℤ form_at (priced_form n book (leaf_of_prices prices) line) units
 form-least n book prices line units settled is small fair =
     let weight : ℤ → ℤ = paid_worth n book (leaf_of_prices prices) line.kind in
     let price : ℤ → ℕ = price_on book.needs prices in
@@ -106,7 +108,7 @@ form-least n book prices line units settled is small fair =
     let form = form_with weight own costs pays in
     let least = form-from form.slope (PRICE_SCALE * costs.low) (worth_at book.needs prices pays) form.slack units (joined _ _ _ _ cost_side paid_side) fair in
     let all : form.slack ≤ PRICE_SCALE * (COEFFICIENT_SCALE + length pays * (COEFFICIENT_SCALE / 2)) = omega (arith, cost_slack, paid_slack) in
-    subst (λ (f : Form). neg_ℤ (pos (PRICE_SCALE * (COEFFICIENT_SCALE + length pays * (COEFFICIENT_SCALE / 2)))) ≤ℤ form_at f units) (sym (form_of-is n book (leaf_of_prices prices) line))
+    subst (λ (f : Form). neg_ℤ (pos (PRICE_SCALE * (COEFFICIENT_SCALE + length pays * (COEFFICIENT_SCALE / 2)))) ≤ℤ form_at f units) (sym (priced_form-is n book (leaf_of_prices prices) line))
     (below _ _ _ least all)
   where
     joined : (x y : ℤ) (a b : ℕ) → x ≡ pos a → y ≡ neg_ℤ (pos b) → x +ℤ y ≡ pos a -ℤ pos b
@@ -117,8 +119,8 @@ form-least n book prices line units settled is small fair =
 
 -- ---- the least of a line at the root
 -- no units have no reduced cost
-reduced-none : (n : ℕ) (book : BookContents) (prices : List ℕ) (line : Line) → reduced_cost n book (leaf_of_prices prices) line 0 ≡ pos 0
-unfolding reduced_cost
+reduced-none : (n : ℕ) (book : BookContents) (prices : List ℕ) (line : Line) → priced_cost n book (leaf_of_prices prices) line 0 ≡ pos 0
+unfolding priced_cost
 reduced-none n book prices line =
     let weight : ℤ → ℤ = paid_worth n book (leaf_of_prices prices) line.kind in
     let cost : line_cost line 0 ≡ 0 = line_cost-none line 0 refl in
@@ -143,15 +145,16 @@ reduced-none n book prices line =
 -- the least of a line that is no bargain
 line-least : (n : ℕ) (book : BookContents) (prices : List ℕ) (line : Line) → IsSettlement book.days.settle → IsLine book.days line → All (λ price. price ≤ PRICE_SCALE) prices → IsNoBargain book prices line
     → IsLeastByRounding n book prices line
-line-least n book prices line settled is small fair = at (0 == line.most) (reduced-none n book prices line)
+line-least n book prices line settled is small fair =
+    subst (λ (z : ℤ). down ≤ℤ z) (sym (within-plain n book (leaf_of_prices prices) line (whole_interval line) refl)) (at (0 == line.most) (reduced-none n book prices line))
   where
     form : Form
-    form = form_of n book (leaf_of_prices prices) line
+    form = priced_form n book (leaf_of_prices prices) line
 
     down : ℤ
     down = neg_ℤ (pos (root_rounding book line))
 
-    at : (t : Bool) → reduced_cost n book (leaf_of_prices prices) line 0 ≡ pos 0 → down ≤ℤ (if t then reduced_cost n book (leaf_of_prices prices) line 0 else int_min (pos 0) (int_min (form_at form line.least) (form_at form line.most)))
+    at : (t : Bool) → priced_cost n book (leaf_of_prices prices) line 0 ≡ pos 0 → down ≤ℤ (if t then priced_cost n book (leaf_of_prices prices) line 0 else int_min (pos 0) (int_min (form_at form line.least) (form_at form line.most)))
     at true e = nothing (root_rounding book line) _ e
       where
         nothing : (a : ℕ) (z : ℤ) → z ≡ pos 0 → neg_ℤ (pos a) ≤ℤ z

@@ -15,7 +15,7 @@ abbrev pub PlainGapHolds : Type 0
 PlainGapHolds =
     (limit : ℕ) (book : BookContents) → IsBook book → (plain : IsPlain limit book)
     → (pos (COEFFICIENT_SCALE * PRICE_SCALE) *ℤ (pos (cost book plain.plan) -ℤ pos (plain_gap book) -ℤ pos 1))
-    <ℤ bound_of (limit - 1) book (root_of book.lines) (leaf_of_prices plain.prices)
+    <ℤ bound_of (limit - 1) book (root_of book) (leaf_of_prices plain.prices)
 
 -- so nothing that is permitted and meets the needs, whatever its yield, costs less than that plan by more than the gap
 abbrev pub PlainPlansAreNearlyCheapest : Type 0

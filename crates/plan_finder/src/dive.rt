@@ -342,7 +342,7 @@ impl<'a> Diver<'a> {
 
     /// Solves the program in which each line has a range, from a basis where one is given, and else from the start.
     pub(crate) fn start_within(&mut self, ranges: &Ranges, basis: Option<&Basis>)
-        requires ranges { length ranges.now ≡ length self.old.lines }
+        requires ranges { length ranges.now.lines ≡ length self.old.lines }
         ensures { self.new ≡ self.old }
     {
         let intervals = ranges.intervals();

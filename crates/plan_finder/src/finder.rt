@@ -1,8 +1,7 @@
 //! What dives for plans.
 ghost use Rattle.std.specs.Prelude.{◌≡◌, ◌<◌, ◌≤◌, ◌↔◌, All, IfOk, IfSome, IsTrue, length};
-ghost use Rattle.std.specs.List.{AllZip};
 ghost use Rattle.offer_book.specs.Portfolio.{IsPermitted, Meets};
-ghost use Rattle.node_ranges.specs.Ranges.{HasRoomFor};
+ghost use Rattle.node_ranges.specs.Ranges.{AreOf};
 ghost use Rattle.plan_finder.specs.Dive.{AreLinesOf};
 ghost use Rattle.plan_finder.specs.Proposal.{IsProposal};
 
@@ -215,7 +214,7 @@ impl<'a> Finder<'a> {
         ranges: &Ranges,
         basis: Option<&Basis>,
     ) -> Result<Option<Proposal>, NoMemory>
-        requires ranges { AllZip HasRoomFor self.old.book.lines ranges.now }
+        requires ranges { AreOf self.old.book ranges.now }
         ensures finder { self.new ≡ self.old }
         ensures proposal { IfOk result (λ found. IfSome found (IsProposal self.old.limit self.old.book)) }
     {

@@ -1,5 +1,5 @@
 //! The linear program of a book, and its solution: the bounded dual simplex.
-ghost use Rattle.std.specs.Prelude.{◌≡◌, ◌≤◌, length, IfOk};
+ghost use Rattle.std.specs.Prelude.{[], ◌≡◌, ◌≤◌, length, IfOk};
 ghost use Rattle.fixed_powers.specs.DiscountPowers.{IsLowTable, PowerTable};
 ghost use Rattle.proof_tree.specs.Tree.{IsLeaf};
 
@@ -387,15 +387,17 @@ impl<'a> Simplex<'a> {
 
     /// Puts the prices and the multiplier into a leaf that has a price for each need date. Where they are greater than a leaf may have
     /// them, they and the weight of the cost are made smaller together: that leaves what the leaf shows. The weight is at least a hundredth. One that doesn't weigh the
-    /// cost goes on like that. It takes no memory.
+    /// cost goes on like that. The leaf has no weights of sums. It takes no memory.
     pub fn propose(&self, leaf: &mut Leaf)
         requires { length leaf.old.prices ≡ self.now.dates }
         ensures well_formed { IsLeaf self.now.dates leaf.new }
+        ensures unweighted { leaf.new.weights ≡ [] }
         ensures weighs { 1 ≤ leaf.old.rho → LEAST_WEIGHT ≤ leaf.new.rho }
         ensures without_cost { leaf.old.rho ≡ 0 → leaf.new.rho ≡ 0 }
     {
         let scale = proposed_scale(&self.duals);
         leaf.rho = if leaf.rho == 0 { 0 } else { scale };
+        leaf.weights.clear();
         leaf.mu = proposed_multiplier(self.duals.multiplier(), scale);
         propose_prices(&self.duals, self.dates, scale, &mut leaf.prices);
     }

@@ -1,6 +1,6 @@
 //! Intervals of units.
 
-/// An interval of units of a line, both ends included.
+/// An interval of units of a line or of a sum, both ends included.
 #[derive(Clone, Copy, Debug, PartialEq, Eq)]
 pub struct Interval {
     /// The least number of units.

@@ -4,7 +4,9 @@
 mod interval;
 mod prices;
 mod tree;
+mod weights;
 
 pub use interval::Interval;
 pub use prices::{PRICE_SCALE, Prices};
-pub use tree::{GREATEST_UNITS, Leaf, Nodes, TreeNode};
+pub use tree::{GREATEST_UNITS, Leaf, Nodes, Part, TreeNode};
+pub use weights::{MOST_WEIGHTS, Side, SumWeight, Weights};

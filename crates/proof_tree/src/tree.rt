@@ -4,6 +4,7 @@ ghost use Rattle.proof_tree.specs.Tree.{IsLeaf};
 ghost use Rattle.proof_tree.specs.declared.tree.TreeNode.TheVariants as node;
 
 use crate::prices::{PRICE_SCALE, Prices};
+use crate::weights::Weights;
 use escrow_desk::NoMemory;
 use std::alloc::Global;
 use std::marker::Model;
@@ -21,6 +22,8 @@ pub struct Leaf {
     pub mu: u64,
     /// The price of a cent on each need date.
     pub prices: Prices,
+    /// The weights of sums: at most [`MOST_WEIGHTS`], by rising sums.
+    pub weights: Weights,
 }
 
 impl Leaf {
@@ -31,7 +34,7 @@ impl Leaf {
     ///
     /// Where memory ran out.
     pub fn of_zeros(alloc: Global, whole: bool, count: u16) -> Result<Leaf, NoMemory>
-        ensures value { IfOk result (λ leaf. leaf ≡ record { rho = if whole then PRICE_SCALE else 0; mu = 0; prices = replicate count 0 }) }
+        ensures value { IfOk result (λ leaf. leaf ≡ record { rho = if whole then PRICE_SCALE else 0; mu = 0; prices = replicate count 0; weights = [] }) }
         ensures leaf { IfOk result (IsLeaf count) }
     {
         let prices = vec![in alloc; 0u64; usize::from(count)]?;
@@ -39,6 +42,7 @@ impl Leaf {
             rho: if whole { PRICE_SCALE } else { 0 },
             mu: 0,
             prices: Prices::new(prices),
+            weights: Weights::none(alloc),
         })
     }
 
@@ -54,22 +58,32 @@ impl Leaf {
             rho: self.rho,
             mu: self.mu,
             prices: Prices::new(self.prices.as_slice().to_vec(alloc)?),
+            weights: self.weights.copy(alloc)?,
         })
     }
+}
+
+/// What a split narrows.
+#[derive(Clone, Copy, Debug, PartialEq, Eq)]
+pub enum Part {
+    /// The units of a line, counted from 0.
+    Line(u16),
+    /// The units together of the coarse lines that pay after a need date: those of the sum of a need date, counted from 0.
+    Sum(u16),
 }
 
 /// A node of a tree over ranges of units, in preorder.
 #[derive(Debug, Drop)]
 pub enum TreeNode {
-    /// The range of a line is split: on the left up to a number of units, on the right from one more. The left subtree
-    /// follows, and then the right one.
+    /// The range of a line or of a sum is split: on the left up to a number of units, on the right from one more. The left
+    /// subtree follows, and then the right one.
     Split {
-        /// The line, counted from 0.
-        line: u16,
+        /// The line or the sum.
+        part: Part,
         /// The most units of the left range.
         at: u64,
     },
-    /// Each range is a single number of units.
+    /// Each line's range is a single number of units.
     Point,
     /// A leaf with its weights.
     Closed(Leaf),

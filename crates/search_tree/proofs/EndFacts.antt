@@ -15,7 +15,7 @@ use Rattle.node_ranges.proofs.RangeFacts.{splits-at, tight-at, tight-length}
 use Rattle.node_ranges.proofs.RangeLaws.{root_is_tight, sides_are_tight}
 use Rattle.dual_bound.proofs.Soundness.{all-lines}
 use Rattle.dual_bound.specs.LeafBound.{bound_of}
-use Rattle.node_ranges.specs.Ranges.{AreTight, is_proper, root_of}
+use Rattle.node_ranges.specs.Ranges.{AreTight, RangesContents, is_proper, root_of}
 use Rattle.node_ranges.proofs.CostFacts.{cost-bears}
 use Rattle.node_ranges.specs.Claims.{Claim, IsProper, bears_out, bears_out_by, is_bad_split, least_cost, placed_nodes}
 use Rattle.proof_tree.specs.Tree.{AreTrees, IsNode}
@@ -23,6 +23,7 @@ use Rattle.proof_tree.specs.declared.interval.Interval.{Interval}
 use Rattle.proof_tree.specs.declared.tree.Leaf.{Leaf}
 use Rattle.proof_tree.specs.declared.tree.TreeNode.{TreeNode}
 use Rattle.proof_tree.specs.declared.tree.TreeNode.TheVariants as node
+use Rattle.proof_tree.specs.declared.tree.Part.TheVariants as part
 use Rattle.halving_tree.proofs.Reach.{reach_is_leaf}
 use Rattle.halving_tree.specs.Base.{reach_leaf}
 use Rattle.node_pool.proofs.WayFacts.{ways-tight}
@@ -48,21 +49,21 @@ use Rattle.offer_book.specs.declared.payment_days.PaymentDays.{PaymentDays}
 
 -- ---- a tree of which each node is closed or split
 -- what holds at a node, by its state
-abbrev pub EndsAt : CaseContents → (List Interval → ℕ → ℕ → Type 0) → ℤ → (List Interval → SearchNode → Type 0) → ℕ → List Interval → SearchNode → State → Type 0
+abbrev pub EndsAt : CaseContents → (RangesContents → ℕ → ℕ → Type 0) → ℤ → (RangesContents → SearchNode → Type 0) → ℕ → RangesContents → SearchNode → State → Type 0
 EndsAt case Obeys popped Closes number ranges own (state.Split line at left right) = IsSplitNode case Obeys popped ranges own.priced line at
 EndsAt case Obeys popped Closes number ranges own (state.Closed leaf) = (leaf ≡ number) × Closes ranges own
 EndsAt case Obeys popped Closes number ranges own other = Unit {0}
 
-pub record IsEndAt (case : CaseContents) (Obeys : List Interval → ℕ → ℕ → Type 0) (popped : ℤ) (Closes : List Interval → SearchNode → Type 0) (number : ℕ) (ranges : List Interval) (own : SearchNode) (s : State) : Type 0 where
+pub record IsEndAt (case : CaseContents) (Obeys : RangesContents → ℕ → ℕ → Type 0) (popped : ℤ) (Closes : RangesContents → SearchNode → Type 0) (number : ℕ) (ranges : RangesContents) (own : SearchNode) (s : State) : Type 0 where
   pub priced : IsPriced case ranges own.priced
   pub ends : EndsAt case Obeys popped Closes number ranges own s
 
-pub record IsEndTree (case : CaseContents) (Obeys : List Interval → ℕ → ℕ → Type 0) (popped : ℤ) (Closes : List Interval → SearchNode → Type 0) (tree : TreeContents) : Type 0 where
+pub record IsEndTree (case : CaseContents) (Obeys : RangesContents → ℕ → ℕ → Type 0) (popped : ℤ) (Closes : RangesContents → SearchNode → Type 0) (tree : TreeContents) : Type 0 where
   pub one : IsOneTree tree.pool.states
   pub whole : SplitsAreWhole tree.pool.states
   pub ended : AreEnded tree.pool.states
   pub each : (number : ℕ) (way : List Step) → number < length tree.pool.states → IsWay tree.pool.states number way
-      → IsEndAt case Obeys popped Closes number (ranges_at case.book.lines way) (node_of tree.nodes number) (state_at tree.pool.states number)
+      → IsEndAt case Obeys popped Closes number (ranges_at case.book way) (node_of tree.nodes number) (state_at tree.pool.states number)
 
 -- the nodes that its leaves stand for
 abbrev pub ends_of : CaseContents → TreeContents → ℕ → TreeNode
@@ -79,8 +80,8 @@ pub ends-end : (case : CaseContents) (tree : TreeContents) (number : ℕ) → Is
 ends-end case tree number = end-ends case (node_of tree.nodes number).priced.leaf (node_of tree.nodes number).closing
 
 -- what holds of each split, and of each node that is closed so, holds of the whole tree
-holds-by : (case : CaseContents) (Obeys : List Interval → ℕ → ℕ → Type 0) (popped : ℤ) (Closes : List Interval → SearchNode → Type 0) (P : TreeNode × List Interval → Type 0) (tree : TreeContents) (number : ℕ) (ranges : List Interval) (s : State)
-    → ((line at : ℕ) → IsPriced case ranges (node_of tree.nodes number).priced → IsSplitNode case Obeys popped ranges (node_of tree.nodes number).priced line at → P (node.Split line at, ranges))
+holds-by : (case : CaseContents) (Obeys : RangesContents → ℕ → ℕ → Type 0) (popped : ℤ) (Closes : RangesContents → SearchNode → Type 0) (P : TreeNode × RangesContents → Type 0) (tree : TreeContents) (number : ℕ) (ranges : RangesContents) (s : State)
+    → ((line at : ℕ) → IsPriced case ranges (node_of tree.nodes number).priced → IsSplitNode case Obeys popped ranges (node_of tree.nodes number).priced line at → P (node.Split (part.Line line) at, ranges))
     → (IsPriced case ranges (node_of tree.nodes number).priced → Closes ranges (node_of tree.nodes number) → P (ends_of case tree number, ranges))
     → IsEndAt case Obeys popped Closes number ranges (node_of tree.nodes number) s → HoldsBy P (ends_of case tree) ranges s
 holds-by case Obeys popped Closes P tree number ranges (state.Waiting key) splits closes is = tt
@@ -96,44 +97,44 @@ split-there states number line at left right split = elim (cases_lt number (leng
   | inr past ↦ absurd (let clash : state.InHand ≡ state.Split line at left right = sym (get_or_past states number state.InHand past) ∙ split in cc)
 ]
 
-way-split : (case : CaseContents) (Obeys : List Interval → ℕ → ℕ → Type 0) (popped : ℤ) (Closes : List Interval → SearchNode → Type 0) (tree : TreeContents) → IsEndTree case Obeys popped Closes tree → (child parent : ℕ) (step : Step) (above : List Step)
-    → (up : IsStep tree.pool.states child parent step) → IsWay tree.pool.states parent above → is_proper (ranges_at case.book.lines above) step.line step.at ≡ true
+way-split : (case : CaseContents) (Obeys : RangesContents → ℕ → ℕ → Type 0) (popped : ℤ) (Closes : RangesContents → SearchNode → Type 0) (tree : TreeContents) → IsEndTree case Obeys popped Closes tree → (child parent : ℕ) (step : Step) (above : List Step)
+    → (up : IsStep tree.pool.states child parent step) → IsWay tree.pool.states parent above → is_proper (ranges_at case.book above) (part.Line step.line) step.at ≡ true
 way-split case Obeys popped Closes tree is child parent step above up way =
     let here = split-there tree.pool.states parent step.line step.at up.left up.right up.split in
-    let split : IsEndAt case Obeys popped Closes parent (ranges_at case.book.lines above) (node_of tree.nodes parent) (state.Split step.line step.at up.left up.right) =
-    subst (IsEndAt case Obeys popped Closes parent (ranges_at case.book.lines above) (node_of tree.nodes parent)) up.split (is.each parent above here way) in
+    let split : IsEndAt case Obeys popped Closes parent (ranges_at case.book above) (node_of tree.nodes parent) (state.Split step.line step.at up.left up.right) =
+    subst (IsEndAt case Obeys popped Closes parent (ranges_at case.book above) (node_of tree.nodes parent)) up.split (is.each parent above here way) in
     split.ends.proper
 
-way-proper : (case : CaseContents) (Obeys : List Interval → ℕ → ℕ → Type 0) (popped : ℤ) (Closes : List Interval → SearchNode → Type 0) (tree : TreeContents) → IsEndTree case Obeys popped Closes tree → (number : ℕ) (way : List Step) → number < length tree.pool.states
-    → IsWay tree.pool.states number way → AreProper case.book.lines way
+way-proper : (case : CaseContents) (Obeys : RangesContents → ℕ → ℕ → Type 0) (popped : ℤ) (Closes : RangesContents → SearchNode → Type 0) (tree : TreeContents) → IsEndTree case Obeys popped Closes tree → (number : ℕ) (way : List Step) → number < length tree.pool.states
+    → IsWay tree.pool.states number way → AreProper case.book way
 way-proper case Obeys popped Closes tree is number [] few way = tt
 way-proper case Obeys popped Closes tree is number (step ∷ above) few way = (
   way-proper case Obeys popped Closes tree is way.0 above (split-there tree.pool.states way.0 step.line step.at way.1.left way.1.right way.1.split) way.2,
   way-split case Obeys popped Closes tree is number way.0 step above way.1 way.2,
 )
 
-pub all-at : (case : CaseContents) (Obeys : List Interval → ℕ → ℕ → Type 0) (popped : ℤ) (Closes : List Interval → SearchNode → Type 0) (P : TreeNode × List Interval → Type 0) (tree : TreeContents) (shape : Tree)
+pub all-at : (case : CaseContents) (Obeys : RangesContents → ℕ → ℕ → Type 0) (popped : ℤ) (Closes : RangesContents → SearchNode → Type 0) (P : TreeNode × RangesContents → Type 0) (tree : TreeContents) (shape : Tree)
     → IsEndTree case Obeys popped Closes tree → IsTreeOf tree.pool.states 0 shape
-    → ((number : ℕ) (ranges : List Interval) (line at : ℕ) → IsPriced case ranges (node_of tree.nodes number).priced → IsSplitNode case Obeys popped ranges (node_of tree.nodes number).priced line at → AreTight case.book.lines ranges → P (node.Split line at, ranges))
-    → ((number : ℕ) (ranges : List Interval) → IsPriced case ranges (node_of tree.nodes number).priced → Closes ranges (node_of tree.nodes number) → AreTight case.book.lines ranges → P (ends_of case tree number, ranges))
-    → IsBook case.book → AllAt case.book.lines P (ends_of case tree) shape (root_of case.book.lines)
+    → ((number : ℕ) (ranges : RangesContents) (line at : ℕ) → IsPriced case ranges (node_of tree.nodes number).priced → IsSplitNode case Obeys popped ranges (node_of tree.nodes number).priced line at → AreTight case.book ranges → P (node.Split (part.Line line) at, ranges))
+    → ((number : ℕ) (ranges : RangesContents) → IsPriced case ranges (node_of tree.nodes number).priced → Closes ranges (node_of tree.nodes number) → AreTight case.book ranges → P (ends_of case tree number, ranges))
+    → IsBook case.book → AllAt case.book P (ends_of case tree) shape (root_of case.book)
 all-at case Obeys popped Closes P tree shape is shape_is splits closes limits =
-    from-nodes case.book.lines P (ends_of case tree) tree.pool.states shape 0 [] holds shape_is refl
+    from-nodes case.book P (ends_of case tree) tree.pool.states shape 0 [] holds shape_is refl
   where
-    holds : (child : ℕ) (up : List Step) → IsWay tree.pool.states child up → HoldsBy P (ends_of case tree) (ranges_at case.book.lines up) (state_at tree.pool.states child)
+    holds : (child : ℕ) (up : List Step) → IsWay tree.pool.states child up → HoldsBy P (ends_of case tree) (ranges_at case.book up) (state_at tree.pool.states child)
     holds child up way = elim (cases_lt child (length tree.pool.states)) [
       | inl few ↦
-          let tight = ways-tight sides_are_tight case.book.lines (root_is_tight case.book limits) up (way-proper case Obeys popped Closes tree is child up few way) in
-          holds-by case Obeys popped Closes P tree child (ranges_at case.book.lines up) (state_at tree.pool.states child)
-          (λ line at priced split. splits child (ranges_at case.book.lines up) line at priced split tight)
-          (λ priced closed. closes child (ranges_at case.book.lines up) priced closed tight) (is.each child up few way)
-      | inr past ↦ subst (HoldsBy P (ends_of case tree) (ranges_at case.book.lines up)) (sym (get_or_past tree.pool.states child state.InHand past)) tt
+          let tight = ways-tight sides_are_tight case.book (root_is_tight case.book limits) up (way-proper case Obeys popped Closes tree is child up few way) in
+          holds-by case Obeys popped Closes P tree child (ranges_at case.book up) (state_at tree.pool.states child)
+          (λ line at priced split. splits child (ranges_at case.book up) line at priced split tight)
+          (λ priced closed. closes child (ranges_at case.book up) priced closed tight) (is.each child up few way)
+      | inr past ↦ subst (HoldsBy P (ends_of case tree) (ranges_at case.book up)) (sym (get_or_past tree.pool.states child state.InHand past)) tt
     ]
 
 -- ---- what holds of every such tree
 -- its splits are proper
-proper-node : (ranges : List Interval) (next : TreeNode) → IsEndNode next → is_bad_split (next, ranges) ≡ false
-proper-node ranges (node.Split line at) ends = absurd ends
+proper-node : (ranges : RangesContents) (next : TreeNode) → IsEndNode next → is_bad_split (next, ranges) ≡ false
+proper-node ranges (node.Split part at) ends = absurd ends
 proper-node ranges node.Point ends = refl
 proper-node ranges (node.Closed leaf) ends = refl
 
@@ -148,11 +149,11 @@ closed-by rho bound claim without_cost some =
     ap (λ (b : Bool). if b then without_cost else bears_out_by rho bound claim) weighs ∙ sym (cost-bears rho bound claim some)
 
 -- where a node is closed by a leaf that doesn't weigh the cost, that shows what it has to
-abbrev pub HasShown : CaseContents → List Interval → SearchNode → Type 0
+abbrev pub HasShown : CaseContents → RangesContents → SearchNode → Type 0
 HasShown case ranges own = (leaf : Leaf) → own.closing ≡ closing.Infeasible leaf → ShowsNone case ranges leaf
 
 -- a closed node is weak or not as its closing says
-pub weak-by : (case : CaseContents) (claim : Claim) (ranges : List Interval) (own : SearchNode) → IsPriced case ranges own.priced
+pub weak-by : (case : CaseContents) (claim : Claim) (ranges : RangesContents) (own : SearchNode) → IsPriced case ranges own.priced
     → (own.closing ≡ closing.Open → ⊥) → (own.closing ≡ closing.Borne → bears_out own.priced.bound claim ≡ true)
     → ((day : ℤ) → own.closing ≡ closing.Unreached day → pos 0 <ℤ bound_of (case.limit - 1) case.book ranges (reach_leaf case.book.needs day))
     → HasShown case ranges own → (own.closing ≡ closing.Point → is_closed_point case claim ranges ≡ true) → is_weak case claim (end_node case.book.needs own, ranges) ≡ false
@@ -177,7 +178,7 @@ weak-by case claim ranges own priced opened borne unreached infeasible point = b
     by closing.Point is = ap not (point is)
 
 -- leaves that weigh the cost are raised
-raised-by : (case : CaseContents) (ranges : List Interval) (own : SearchNode) → IsPriced case ranges own.priced → HasShown case ranges own → IsRaised case (end_node case.book.needs own, ranges)
+raised-by : (case : CaseContents) (ranges : RangesContents) (own : SearchNode) → IsPriced case ranges own.priced → HasShown case ranges own → IsRaised case (end_node case.book.needs own, ranges)
 raised-by case ranges own priced infeasible = by own.closing refl
   where
     by : (how : Closing) → own.closing ≡ how → IsRaised case (end_by case.book.needs own.priced.leaf how, ranges)
@@ -188,7 +189,7 @@ raised-by case ranges own priced infeasible = by own.closing refl
     by closing.Point is = tt
 
 -- nodes are within the limits of a certificate
-node-by : (case : CaseContents) (ranges : List Interval) (own : SearchNode) → IsBook case.book → IsPriced case ranges own.priced → HasShown case ranges own → IsNode (length case.book.needs) (end_node case.book.needs own)
+node-by : (case : CaseContents) (ranges : RangesContents) (own : SearchNode) → IsBook case.book → IsPriced case ranges own.priced → HasShown case ranges own → IsNode (length case.book.needs) (end_node case.book.needs own)
 node-by case ranges own limits priced infeasible = by own.closing refl
   where
     by : (how : Closing) → own.closing ≡ how → IsNode (length case.book.needs) (end_by case.book.needs own.priced.leaf how)
@@ -202,15 +203,15 @@ pub most-small : (days : PaymentDays) (line : Line) → IsLine days line → lin
 most-small days line (inl cash) = omega (arith, cash.most)
 most-small days line (inr security) = omega (arith, mul-le-mul_left line.most security.step_at_least, security.cap)
 
-split-node-by : (case : CaseContents) (ranges : List Interval) (line at : ℕ) → IsBook case.book → AreTight case.book.lines ranges → is_proper ranges line at ≡ true → (line ≤ 65_535) × (at ≤ 10 ^ 13)
+split-node-by : (case : CaseContents) (ranges : RangesContents) (line at : ℕ) → IsBook case.book → AreTight case.book ranges → is_proper ranges (part.Line line) at ≡ true → (line ≤ 65_535) × (at ≤ 10 ^ 13)
 split-node-by case ranges line at limits tight proper =
     let none : Interval = record { low = 0; high = 0 } in
-    let split = splits-at ranges line at proper in
-    let same = tight-length case.book.lines ranges tight in
+    let split = splits-at ranges.lines line at proper in
+    let same = tight-length case.book.lines ranges.lines tight.lines in
     let there = split.there in
     let within : line < length case.book.lines = omega (arith, there, same) in
     let own : Line = get_or case.book.lines line (cash_line 0) in
-    let high = permitted_few own (get_or ranges line none).high (tight-at case.book.lines ranges line (cash_line 0) none tight there).high in
+    let high = permitted_few own (get_or ranges.lines line none).high (tight-at case.book.lines ranges.lines line (cash_line 0) none tight.lines there).high in
     let small = most-small case.book.days own (all-lines case.book.days case.book.lines limits.lines line (cash_line 0) within) in
     (omega (arith, within, count_lines case.book.days case.book.lines limits.lines), omega (arith, split.right none, high, small))
 
@@ -228,28 +229,25 @@ written case tree links nodes shape one whole shape_is links_are nodes_are = rec
   count = ap length nodes_are ∙ length-map links (link_node (ends_of case tree)) ∙ ap length links_are ∙ nodes-all tree.pool.states shape one whole shape_is;
 }
 
-pub well-written : (case : CaseContents) (Obeys : List Interval → ℕ → ℕ → Type 0) (popped : ℤ) (Closes : List Interval → SearchNode → Type 0) (tree : TreeContents) (shape : Tree) (nodes : List TreeNode) → IsBook case.book → IsEndTree case Obeys popped Closes tree
-    → ((ranges : List Interval) (own : SearchNode) → Closes ranges own → HasShown case ranges own) → IsWritten case tree shape nodes → IsWell case nodes
+pub well-written : (case : CaseContents) (Obeys : RangesContents → ℕ → ℕ → Type 0) (popped : ℤ) (Closes : RangesContents → SearchNode → Type 0) (tree : TreeContents) (shape : Tree) (nodes : List TreeNode) → IsBook case.book → IsEndTree case Obeys popped Closes tree
+    → ((ranges : RangesContents) (own : SearchNode) → Closes ranges own → HasShown case ranges own) → IsWritten case tree shape nodes → IsWell case nodes
 well-written case Obeys popped Closes tree shape nodes limits is shown made = record {
   proper = subst (λ (ns : List TreeNode). All IsProper (placed_nodes case.book ns)) (sym made.nodes_are)
-      (all-placed lines IsProper ends shape root (ends-end case tree)
+      (all-placed case.book IsProper ends shape root (ends-end case tree)
       (all-at case Obeys popped Closes IsProper tree shape is made.shape_is (λ number ranges line at priced split tight. ap not split.proper) (λ number ranges priced closed tight. proper-node ranges (ends number) (ends-end case tree number)) limits));
   raised = subst (λ (ns : List TreeNode). All (IsRaised case) (placed_nodes case.book ns)) (sym made.nodes_are)
-      (all-placed lines (IsRaised case) ends shape root (ends-end case tree)
+      (all-placed case.book (IsRaised case) ends shape root (ends-end case tree)
       (all-at case Obeys popped Closes (IsRaised case) tree shape is made.shape_is (λ number ranges line at priced split tight. tt) (λ number ranges priced closed tight. raised-by case ranges (node_of tree.nodes number) priced (shown ranges (node_of tree.nodes number) closed)) limits));
   limited = subst (All (IsNode (length case.book.needs))) (sym made.nodes_are)
-      (all-nodes lines (IsNode (length case.book.needs)) ends shape root
-      (all-at case Obeys popped Closes (λ (p : TreeNode × List Interval). IsNode (length case.book.needs) p.0) tree shape is made.shape_is
+      (all-nodes case.book (IsNode (length case.book.needs)) ends shape root
+      (all-at case Obeys popped Closes (λ (p : TreeNode × RangesContents). IsNode (length case.book.needs) p.0) tree shape is made.shape_is
       (λ number ranges line at priced split tight. split-node-by case ranges line at limits tight split.proper)
       (λ number ranges priced closed tight. node-by case ranges (node_of tree.nodes number) limits priced (shown ranges (node_of tree.nodes number) closed)) limits));
   trees = subst (AreTrees 1) (sym made.nodes_are) (subst (AreTrees 1) (append-nil (tree_nodes ends shape)) (are-trees ends shape 0 [] (ends-end case tree) refl));
 }
   where
-    lines : List Line
-    lines = case.book.lines
-
-    root : List Interval
-    root = root_of case.book.lines
+    root : RangesContents
+    root = root_of case.book
 
     ends : ℕ → TreeNode
     ends = ends_of case tree

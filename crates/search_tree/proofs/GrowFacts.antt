@@ -8,16 +8,16 @@ use Rattle.std.proofs.lemmas.Int.{ints}
 use Rattle.std.proofs.lemmas.List.{get_or-set_other, get_or-set_same}
 use Rattle.case_file.specs.Case.{CaseContents}
 use Rattle.cash_table.specs.Points.{is_excluded}
-use Rattle.node_ranges.specs.Ranges.{is_single, narrowed}
+use Rattle.node_ranges.specs.Ranges.{RangesContents, is_single, narrowed}
 use Rattle.node_ranges.specs.Claims.{bears_out, costs_enough, low_ends}
-use Rattle.proof_tree.specs.declared.interval.Interval.{Interval}
+use Rattle.proof_tree.specs.declared.tree.Part.TheVariants as part
 use Rattle.node_pool.specs.Pool.{IsLeast, SplitsAreWhole, state_at, with_state}
 use Rattle.node_pool.specs.Way.{IsWay, Step, ranges_at}
 use Rattle.node_pool.specs.declared.node.State.{State}
 use Rattle.node_pool.specs.declared.node.State.TheVariants as state
 use Rattle.node_pool.proofs.PoolFacts.{after_split, other_state, own_state, split_of}
 use Rattle.search_tree.proofs.Ways.{IsNoSplit, WayNew, way-new, way-old, way-set}
-use Rattle.search_tree.specs.Growing.{GoesOn, HasGrown, IsAt, IsClosedBy, IsGrown, IsHalvingSplit, IsHeld, IsKept, IsLostPoint, IsNodeAt, IsPopped, IsPriced, IsSplitNode, IsStuck, claim_of_best, node_of, no_node}
+use Rattle.search_tree.specs.Growing.{GoesOn, HasGrown, IsAt, IsClosedBy, IsGrown, IsHeld, IsKept, IsLostPoint, IsNodeAt, IsPopped, IsPriced, IsSplitNode, IsStuck, claim_of_best, node_of, no_node}
 use Rattle.search_tree.specs.Best.{IsNoDearer}
 use Rattle.search_tree.specs.Tree.{open_node}
 use Rattle.search_tree.specs.declared.node.Priced.{Priced}
@@ -44,7 +44,7 @@ point-cheaper true true enough more up is = refl
 point-cheaper true false enough more up is = up is
 point-cheaper false excluded enough more up is = is
 
-lost-cheaper : (case : CaseContents) (ranges : List Interval) (best after : Option ℕ) → IsNoDearer best after → IsLostPoint case best ranges → IsLostPoint case after ranges
+lost-cheaper : (case : CaseContents) (ranges : RangesContents) (best after : Option ℕ) → IsNoDearer best after → IsLostPoint case best ranges → IsLostPoint case after ranges
 lost-cheaper case ranges best after cheaper lost = record {
   closed = point-cheaper (is_single ranges) (is_excluded case.book (case.limit - 1) (low_ends ranges)) (costs_enough case.book (option_map pos best) (low_ends ranges))
       (costs_enough case.book (option_map pos after) (low_ends ranges)) (enough-cheaper case (low_ends ranges) best after cheaper) lost.closed;
@@ -56,31 +56,31 @@ lost-cheaper case ranges best after cheaper lost = record {
     none-before (Some cents) None cheaper none = absurd cheaper
     none-before (Some cents) (Some less) cheaper none = absurd (cc)
 
-closed-cheaper : (case : CaseContents) (ranges : List Interval) (bound : ℤ) (best after : Option ℕ) (how : Closing) → IsNoDearer best after → IsClosedBy case best ranges bound how → IsClosedBy case after ranges bound how
+closed-cheaper : (case : CaseContents) (ranges : RangesContents) (bound : ℤ) (best after : Option ℕ) (how : Closing) → IsNoDearer best after → IsClosedBy case best ranges bound how → IsClosedBy case after ranges bound how
 closed-cheaper case ranges bound best after closing.Open cheaper is = is
 closed-cheaper case ranges bound best after closing.Borne cheaper is = claim-cheaper case bound best after cheaper is
 closed-cheaper case ranges bound best after (closing.Unreached day) cheaper is = is
 closed-cheaper case ranges bound best after (closing.Infeasible leaf) cheaper is = is
 closed-cheaper case ranges bound best after closing.Point cheaper is = lost-cheaper case ranges best after cheaper is
 
-at-cheaper : (case : CaseContents) (Obeys : List Interval → ℕ → ℕ → Type 0) (best after : Option ℕ) (popped : ℤ) (number : ℕ) (ranges : List Interval) (own : SearchNode) (s : State) → IsNoDearer best after
+at-cheaper : (case : CaseContents) (Obeys : RangesContents → ℕ → ℕ → Type 0) (best after : Option ℕ) (popped : ℤ) (number : ℕ) (ranges : RangesContents) (own : SearchNode) (s : State) → IsNoDearer best after
     → IsAt case Obeys best popped number ranges own s → IsAt case Obeys after popped number ranges own s
 at-cheaper case Obeys best after popped number ranges own (state.Waiting key) cheaper is = is
 at-cheaper case Obeys best after popped number ranges own state.InHand cheaper is = is
 at-cheaper case Obeys best after popped number ranges own (state.Closed leaf) cheaper is = (is.0, closed-cheaper case ranges own.priced.bound best after own.closing cheaper is.1)
 at-cheaper case Obeys best after popped number ranges own (state.Split line at left right) cheaper is = is
 
-pub grown-cheaper : (case : CaseContents) (Obeys : List Interval → ℕ → ℕ → Type 0) (best after : Option ℕ) (popped : ℤ) (states : List State) (nodes : List SearchNode) → IsNoDearer best after
+pub grown-cheaper : (case : CaseContents) (Obeys : RangesContents → ℕ → ℕ → Type 0) (best after : Option ℕ) (popped : ℤ) (states : List State) (nodes : List SearchNode) → IsNoDearer best after
     → IsGrown case Obeys best popped states nodes → IsGrown case Obeys after popped states nodes
 grown-cheaper case Obeys best after popped states nodes cheaper grown = record {
   same = grown.same;
   each = λ number way few is. (
       let here = grown.each number way few is in
-      record { priced = here.priced; stands = at-cheaper case Obeys best after popped number (ranges_at case.book.lines way) (node_of nodes number) (state_at states number) cheaper here.stands });
+      record { priced = here.priced; stands = at-cheaper case Obeys best after popped number (ranges_at case.book way) (node_of nodes number) (state_at states number) cheaper here.stands });
 }
 
 -- ---- a node is taken
-at-risen : (case : CaseContents) (Obeys : List Interval → ℕ → ℕ → Type 0) (best : Option ℕ) (popped higher : ℤ) (number : ℕ) (ranges : List Interval) (own : SearchNode) (s : State) → popped ≤ℤ higher
+at-risen : (case : CaseContents) (Obeys : RangesContents → ℕ → ℕ → Type 0) (best : Option ℕ) (popped higher : ℤ) (number : ℕ) (ranges : RangesContents) (own : SearchNode) (s : State) → popped ≤ℤ higher
     → ((key : ℤ) → s ≡ state.Waiting key → higher ≤ℤ key) → (s ≡ state.InHand → ⊥) → IsAt case Obeys best popped number ranges own s → IsAt case Obeys best higher number ranges own s
 at-risen case Obeys best popped higher number ranges own (state.Waiting key) up wait hand is = (is.0, wait key refl, is.2)
 at-risen case Obeys best popped higher number ranges own state.InHand up wait hand is = absurd (hand refl)
@@ -89,11 +89,11 @@ at-risen case Obeys best popped higher number ranges own (state.Split line at le
     (record { proper = is.0.proper; few = is.0.few; low = omega (arith, ints, is.0.low, up); obeys = is.0.obeys }, is.1)
 
 -- what a node that waits says
-wait-says : (case : CaseContents) (Obeys : List Interval → ℕ → ℕ → Type 0) (best : Option ℕ) (popped key : ℤ) (number : ℕ) (ranges : List Interval) (own : SearchNode) (s : State) → s ≡ state.Waiting key → IsAt case Obeys best popped number ranges own s
+wait-says : (case : CaseContents) (Obeys : RangesContents → ℕ → ℕ → Type 0) (best : Option ℕ) (popped key : ℤ) (number : ℕ) (ranges : RangesContents) (own : SearchNode) (s : State) → s ≡ state.Waiting key → IsAt case Obeys best popped number ranges own s
     → (key ≡ own.priced.bound) × (popped ≤ℤ key) × (own.closing ≡ closing.Open)
 wait-says case Obeys best popped key number ranges own s is at = subst (IsAt case Obeys best popped number ranges own) is at
 
-pub popped-kept : (case : CaseContents) (Obeys : List Interval → ℕ → ℕ → Type 0) (best : Option ℕ) (popped : ℤ) (states : List State) (nodes : List SearchNode) (number : ℕ) (way : List Step) → IsKept case Obeys best popped states nodes → number < length states
+pub popped-kept : (case : CaseContents) (Obeys : RangesContents → ℕ → ℕ → Type 0) (best : Option ℕ) (popped : ℤ) (states : List State) (nodes : List SearchNode) (number : ℕ) (way : List Step) → IsKept case Obeys best popped states nodes → number < length states
     → IsWay states number way → IsLeast states number → IsPopped case Obeys best (with_state states number state.InHand) nodes number
 popped-kept case Obeys best popped states nodes number way kept few way_is least = record {
   grown = record {
@@ -111,7 +111,7 @@ popped-kept case Obeys best popped states nodes number way kept few way_is least
     no-split line at left right same = absurd (cc)
 
     says : (least.key ≡ bound) × (popped ≤ℤ least.key) × ((node_of nodes number).closing ≡ closing.Open)
-    says = wait-says case Obeys best popped least.key number (ranges_at case.book.lines way) (node_of nodes number) (state_at states number) least.waits (kept.grown.each number way few way_is).stands
+    says = wait-says case Obeys best popped least.key number (ranges_at case.book way) (node_of nodes number) (state_at states number) least.waits (kept.grown.each number way few way_is).stands
 
     only : (other : ℕ) → other < length states → state_at (set states number state.InHand) other ≡ state.InHand → other ≡ number
     only other inside hand = by (other == number) refl
@@ -123,27 +123,27 @@ popped-kept case Obeys best popped states nodes number way kept few way_is least
             absurd (kept.none other inside (sym (get_or-set_other states number other state.InHand state.InHand apart) ∙ hand))
 
     node-at : (child : ℕ) (up : List Step) → child < length states → IsWay states child up
-        → IsNodeAt case Obeys best bound child (ranges_at case.book.lines up) (node_of nodes child) (state_at (set states number state.InHand) child)
+        → IsNodeAt case Obeys best bound child (ranges_at case.book up) (node_of nodes child) (state_at (set states number state.InHand) child)
     node-at child up inside is = by (child == number) refl
       where
-        here : IsNodeAt case Obeys best popped child (ranges_at case.book.lines up) (node_of nodes child) (state_at states child)
+        here : IsNodeAt case Obeys best popped child (ranges_at case.book up) (node_of nodes child) (state_at states child)
         here = kept.grown.each child up inside is
 
-        by : (b : Bool) → (child == number) ≡ b → IsNodeAt case Obeys best bound child (ranges_at case.book.lines up) (node_of nodes child) (state_at (set states number state.InHand) child)
+        by : (b : Bool) → (child == number) ≡ b → IsNodeAt case Obeys best bound child (ranges_at case.book up) (node_of nodes child) (state_at (set states number state.InHand) child)
         by true e =
             let same : child ≡ number = grind (arith, e) in
             let now : state_at (set states number state.InHand) child ≡ state.InHand = ap (λ (k : ℕ). state_at (set states number state.InHand) k) same ∙ get_or-set_same states number state.InHand state.InHand few in
             record {
               priced = here.priced;
-              stands = subst (IsAt case Obeys best bound child (ranges_at case.book.lines up) (node_of nodes child)) (sym now) (ap (λ (k : ℕ). (node_of nodes k).priced.bound) same, ap (λ (k : ℕ). (node_of nodes k).closing) same ∙ says.2);
+              stands = subst (IsAt case Obeys best bound child (ranges_at case.book up) (node_of nodes child)) (sym now) (ap (λ (k : ℕ). (node_of nodes k).priced.bound) same, ap (λ (k : ℕ). (node_of nodes k).closing) same ∙ says.2);
             }
         by false e =
             let apart : child ≢ number = (λ same. absurd (grind (arith, e, same))) in
             let now : state_at (set states number state.InHand) child ≡ state_at states child = get_or-set_other states number child state.InHand state.InHand apart in
             record {
               priced = here.priced;
-              stands = subst (IsAt case Obeys best bound child (ranges_at case.book.lines up) (node_of nodes child)) (sym now)
-                  (at-risen case Obeys best popped bound child (ranges_at case.book.lines up) (node_of nodes child) (state_at states child) (omega (arith, ints, says.0, says.1))
+              stands = subst (IsAt case Obeys best bound child (ranges_at case.book up) (node_of nodes child)) (sym now)
+                  (at-risen case Obeys best popped bound child (ranges_at case.book up) (node_of nodes child) (state_at states child) (omega (arith, ints, says.0, says.1))
                   (λ key waits. elim (least.least child key waits) [
                     | inl below ↦ omega (arith, ints, below, says.0)
                     | inr equal ↦ omega (arith, ints, equal.0, says.0)
@@ -160,7 +160,7 @@ node-other : (nodes : List SearchNode) (number other : ℕ) (own : SearchNode) �
 node-other nodes number other own apart = get_or-set_other nodes number other own no_node apart
 
 -- the node in hand gets another state, which is no split, and leaves the hand; its leaf stays
-set-kept : (case : CaseContents) (Obeys : List Interval → ℕ → ℕ → Type 0) (best : Option ℕ) (states : List State) (nodes after : List SearchNode) (number : ℕ) (ranges : List Interval) (own : SearchNode) (s : State) → IsHeld case Obeys best states nodes number ranges
+set-kept : (case : CaseContents) (Obeys : RangesContents → ℕ → ℕ → Type 0) (best : Option ℕ) (states : List State) (nodes after : List SearchNode) (number : ℕ) (ranges : RangesContents) (own : SearchNode) (s : State) → IsHeld case Obeys best states nodes number ranges
     → IsNoSplit s → (s ≡ state.InHand → ⊥) → length after ≡ length nodes → node_of after number ≡ own → ((k : ℕ) → k ≢ number → node_of after k ≡ node_of nodes k)
     → own.priced ≡ (node_of nodes number).priced → IsAt case Obeys best (node_of nodes number).priced.bound number ranges own s
     → IsKept case Obeys best (node_of nodes number).priced.bound (with_state states number s) after
@@ -189,28 +189,28 @@ set-kept case Obeys best states nodes after number ranges own s held no-split no
             let apart : other ≢ number = (λ same. absurd (grind (arith, e, same))) in
             absurd (apart (held.popped.others other inside (sym (get_or-set_other states number other s state.InHand apart) ∙ hand)))
 
-    node-at : (child : ℕ) (up : List Step) → child < length states → IsWay states child up → IsNodeAt case Obeys best bound child (ranges_at case.book.lines up) (node_of after child) (state_at (set states number s) child)
+    node-at : (child : ℕ) (up : List Step) → child < length states → IsWay states child up → IsNodeAt case Obeys best bound child (ranges_at case.book up) (node_of after child) (state_at (set states number s) child)
     node-at child up inside is = by (child == number) refl
       where
-        by : (b : Bool) → (child == number) ≡ b → IsNodeAt case Obeys best bound child (ranges_at case.book.lines up) (node_of after child) (state_at (set states number s) child)
+        by : (b : Bool) → (child == number) ≡ b → IsNodeAt case Obeys best bound child (ranges_at case.book up) (node_of after child) (state_at (set states number s) child)
         by true e =
             let same : child ≡ number = grind (arith, e) in
             let now : state_at (set states number s) child ≡ s = ap (λ (k : ℕ). state_at (set states number s) k) same ∙ get_or-set_same states number s state.InHand few in
             let at : node_of after child ≡ own = ap (node_of after) same ∙ at-own in
             let way : IsWay states number up = subst (λ (k : ℕ). IsWay states k up) same is in
-            let ranged : ranges ≡ ranges_at case.book.lines up = held.ranged up way in
-            let priced : IsPriced case (ranges_at case.book.lines up) own.priced = subst (IsPriced case (ranges_at case.book.lines up)) (sym priced-same) (held.popped.grown.each number up few way).priced in
-            subst (λ (t : State). IsNodeAt case Obeys best bound child (ranges_at case.book.lines up) (node_of after child) t) (sym now)
-            (subst (λ (n : SearchNode). IsNodeAt case Obeys best bound child (ranges_at case.book.lines up) n s) (sym at)
-            (subst (λ (k : ℕ). IsNodeAt case Obeys best bound k (ranges_at case.book.lines up) own s) (sym same)
-            (record { priced = priced; stands = subst (λ (r : List Interval). IsAt case Obeys best bound number r own s) ranged stands })))
+            let ranged : ranges ≡ ranges_at case.book up = held.ranged up way in
+            let priced : IsPriced case (ranges_at case.book up) own.priced = subst (IsPriced case (ranges_at case.book up)) (sym priced-same) (held.popped.grown.each number up few way).priced in
+            subst (λ (t : State). IsNodeAt case Obeys best bound child (ranges_at case.book up) (node_of after child) t) (sym now)
+            (subst (λ (n : SearchNode). IsNodeAt case Obeys best bound child (ranges_at case.book up) n s) (sym at)
+            (subst (λ (k : ℕ). IsNodeAt case Obeys best bound k (ranges_at case.book up) own s) (sym same)
+            (record { priced = priced; stands = subst (λ (r : RangesContents). IsAt case Obeys best bound number r own s) ranged stands })))
         by false e =
             let apart : child ≢ number = (λ same. absurd (grind (arith, e, same))) in
             let now : state_at (set states number s) child ≡ state_at states child = get_or-set_other states number child s state.InHand apart in
-            subst (λ (t : State). IsNodeAt case Obeys best bound child (ranges_at case.book.lines up) (node_of after child) t) (sym now)
-            (subst (λ (n : SearchNode). IsNodeAt case Obeys best bound child (ranges_at case.book.lines up) n (state_at states child)) (sym (at-others child apart)) (held.popped.grown.each child up inside is))
+            subst (λ (t : State). IsNodeAt case Obeys best bound child (ranges_at case.book up) (node_of after child) t) (sym now)
+            (subst (λ (n : SearchNode). IsNodeAt case Obeys best bound child (ranges_at case.book up) n (state_at states child)) (sym (at-others child apart)) (held.popped.grown.each child up inside is))
 
-pub closed-kept : (case : CaseContents) (Obeys : List Interval → ℕ → ℕ → Type 0) (best : Option ℕ) (states : List State) (nodes : List SearchNode) (number : ℕ) (ranges : List Interval) (how : Closing) → IsHeld case Obeys best states nodes number ranges
+pub closed-kept : (case : CaseContents) (Obeys : RangesContents → ℕ → ℕ → Type 0) (best : Option ℕ) (states : List State) (nodes : List SearchNode) (number : ℕ) (ranges : RangesContents) (how : Closing) → IsHeld case Obeys best states nodes number ranges
     → IsClosedBy case best ranges (node_of nodes number).priced.bound how
     → HasGrown case Obeys best (with_state states number (state.Closed number)) (set nodes number (record (node_of nodes number) { closing = how }))
 closed-kept case Obeys best states nodes number ranges how held closes =
@@ -222,13 +222,13 @@ closed-kept case Obeys best states nodes number ranges how held closes =
     )
 
 -- the node in hand isn't closed
-held-open : (case : CaseContents) (Obeys : List Interval → ℕ → ℕ → Type 0) (best : Option ℕ) (states : List State) (nodes : List SearchNode) (number : ℕ) (ranges : List Interval) → IsHeld case Obeys best states nodes number ranges → (way : List Step) → IsWay states number way
+held-open : (case : CaseContents) (Obeys : RangesContents → ℕ → ℕ → Type 0) (best : Option ℕ) (states : List State) (nodes : List SearchNode) (number : ℕ) (ranges : RangesContents) → IsHeld case Obeys best states nodes number ranges → (way : List Step) → IsWay states number way
     → (node_of nodes number).closing ≡ closing.Open
 held-open case Obeys best states nodes number ranges held way is =
-    (subst (IsAt case Obeys best (node_of nodes number).priced.bound number (ranges_at case.book.lines way) (node_of nodes number)) held.popped.held.in_hand
+    (subst (IsAt case Obeys best (node_of nodes number).priced.bound number (ranges_at case.book way) (node_of nodes number)) held.popped.held.in_hand
     (held.popped.grown.each number way held.popped.held.there is).stands).1
 
-pub stuck-kept : (case : CaseContents) (Obeys : List Interval → ℕ → ℕ → Type 0) (best : Option ℕ) (states : List State) (nodes : List SearchNode) (number : ℕ) (ranges : List Interval) (up : List Step) → IsWay states number up → IsHeld case Obeys best states nodes number ranges
+pub stuck-kept : (case : CaseContents) (Obeys : RangesContents → ℕ → ℕ → Type 0) (best : Option ℕ) (states : List State) (nodes : List SearchNode) (number : ℕ) (ranges : RangesContents) (up : List Step) → IsWay states number up → IsHeld case Obeys best states nodes number ranges
     → GoesOn case best ranges (node_of nodes number).priced.bound → (line at : ℕ) → Obeys ranges line at
     → IsStuck case Obeys best (node_of nodes number).priced.bound (with_state states number (state.Waiting (node_of nodes number).priced.bound)) nodes
 stuck-kept case Obeys best states nodes number ranges up up_is held goes_on line at obeys =
@@ -242,21 +242,21 @@ stuck-kept case Obeys best states nodes number ranges up up_is held goes_on line
       waits = get_or-set_same states number wait state.InHand few;
       kept = set-kept case Obeys best states nodes nodes number ranges (node_of nodes number) wait held (λ line at left right same. absurd (cc)) (λ same. absurd (cc)) refl refl (λ k apart. refl) refl
           (refl, omega (arith, ints), opened);
-      goes_on = λ way is. subst (λ (r : List Interval). GoesOn case best r bound) (held.ranged way (way-set states number wait few (λ line at left right same. absurd (cc)) number way is)) goes_on;
+      goes_on = λ way is. subst (λ (r : RangesContents). GoesOn case best r bound) (held.ranged way (way-set states number wait few (λ line at left right same. absurd (cc)) number way is)) goes_on;
       line = line;
       at = at;
-      obeys = λ way is. subst (λ (r : List Interval). Obeys r line at) (held.ranged way (way-set states number wait few (λ line at left right same. absurd (cc)) number way is)) obeys;
+      obeys = λ way is. subst (λ (r : RangesContents). Obeys r line at) (held.ranged way (way-set states number wait few (λ line at left right same. absurd (cc)) number way is)) obeys;
     }
 
 -- ---- a node is split
-split-node : (case : CaseContents) (Obeys : List Interval → ℕ → ℕ → Type 0) (best : Option ℕ) (popped : ℤ) (number : ℕ) (ranges : List Interval) (left : Priced) → IsPriced case ranges left → popped ≤ℤ left.bound
+split-node : (case : CaseContents) (Obeys : RangesContents → ℕ → ℕ → Type 0) (best : Option ℕ) (popped : ℤ) (number : ℕ) (ranges : RangesContents) (left : Priced) → IsPriced case ranges left → popped ≤ℤ left.bound
     → IsNodeAt case Obeys best popped number ranges (open_node left) (state.Waiting left.bound)
 split-node case Obeys best popped number ranges left priced up = record { priced = priced; stands = (refl, up, refl) }
 
-pub split-kept : (case : CaseContents) (Obeys : List Interval → ℕ → ℕ → Type 0) (best : Option ℕ) (states : List State) (nodes : List SearchNode) (number line at : ℕ) (ranges : List Interval) (left right : Priced) → IsHeld case Obeys best states nodes number ranges
+pub split-kept : (case : CaseContents) (Obeys : RangesContents → ℕ → ℕ → Type 0) (best : Option ℕ) (states : List State) (nodes : List SearchNode) (number line at : ℕ) (ranges : RangesContents) (left right : Priced) → IsHeld case Obeys best states nodes number ranges
     → SplitsAreWhole states → IsSplitNode case Obeys (node_of nodes number).priced.bound ranges (node_of nodes number).priced line at
-    → IsPriced case (narrowed case.book.lines ranges line at false) left → (node_of nodes number).priced.bound ≤ℤ left.bound
-    → IsPriced case (narrowed case.book.lines ranges line at true) right → (node_of nodes number).priced.bound ≤ℤ right.bound
+    → IsPriced case (narrowed case.book ranges (part.Line line) at false) left → (node_of nodes number).priced.bound ≤ℤ left.bound
+    → IsPriced case (narrowed case.book ranges (part.Line line) at true) right → (node_of nodes number).priced.bound ≤ℤ right.bound
     → HasGrown case Obeys best (after_split states number line at left.bound right.bound) (nodes ++ open_node left ∷ open_node right ∷ [])
 split-kept case Obeys best states nodes number line at ranges left right held whole split left_priced left_up right_priced right_up = (
   bound,
@@ -321,50 +321,50 @@ split-kept case Obeys best states nodes number line at ranges left right held wh
     old-node : (k : ℕ) → k < length states → node_of all k ≡ node_of nodes k
     old-node k inside = get_or-append nodes (open_node left ∷ open_node right ∷ []) no_node k (omega (arith, inside, same-length))
 
-    old-at : (child : ℕ) (up : List Step) → child < length states → IsWay states child up → IsNodeAt case Obeys best bound child (ranges_at case.book.lines up) (node_of all child) (state_at after child)
+    old-at : (child : ℕ) (up : List Step) → child < length states → IsWay states child up → IsNodeAt case Obeys best bound child (ranges_at case.book up) (node_of all child) (state_at after child)
     old-at child up inside is = by (child == number) refl
       where
-        by : (b : Bool) → (child == number) ≡ b → IsNodeAt case Obeys best bound child (ranges_at case.book.lines up) (node_of all child) (state_at after child)
+        by : (b : Bool) → (child == number) ≡ b → IsNodeAt case Obeys best bound child (ranges_at case.book up) (node_of all child) (state_at after child)
         by true e =
             let same : child ≡ number = grind (arith, e) in
             let now : state_at after child ≡ split_of states line at = ap (state_at after) same ∙ own_state states number line at left.bound right.bound few in
             let own : node_of all child ≡ node_of nodes number = old-node child inside ∙ ap (node_of nodes) same in
             let way : IsWay states number up = subst (λ (k : ℕ). IsWay states k up) same is in
-            let ranged : ranges ≡ ranges_at case.book.lines up = held.ranged up way in
-            subst (λ (t : State). IsNodeAt case Obeys best bound child (ranges_at case.book.lines up) (node_of all child) t) (sym now)
-            (subst (λ (n : SearchNode). IsNodeAt case Obeys best bound child (ranges_at case.book.lines up) n (split_of states line at)) (sym own)
+            let ranged : ranges ≡ ranges_at case.book up = held.ranged up way in
+            subst (λ (t : State). IsNodeAt case Obeys best bound child (ranges_at case.book up) (node_of all child) t) (sym now)
+            (subst (λ (n : SearchNode). IsNodeAt case Obeys best bound child (ranges_at case.book up) n (split_of states line at)) (sym own)
             (record {
               priced = (held.popped.grown.each number up few way).priced;
-              stands = (subst (λ (r : List Interval). IsSplitNode case Obeys bound r (node_of nodes number).priced line at) ranged split, held-open case Obeys best states nodes number ranges held up way);
+              stands = (subst (λ (r : RangesContents). IsSplitNode case Obeys bound r (node_of nodes number).priced line at) ranged split, held-open case Obeys best states nodes number ranges held up way);
             }))
         by false e =
             let apart : child ≢ number = (λ same. absurd (grind (arith, e, same))) in
             let now : state_at after child ≡ state_at states child = other_state states number line at left.bound right.bound child inside apart in
-            subst (λ (t : State). IsNodeAt case Obeys best bound child (ranges_at case.book.lines up) (node_of all child) t) (sym now)
-            (subst (λ (n : SearchNode). IsNodeAt case Obeys best bound child (ranges_at case.book.lines up) n (state_at states child)) (sym (old-node child inside)) (held.popped.grown.each child up inside is))
+            subst (λ (t : State). IsNodeAt case Obeys best bound child (ranges_at case.book up) (node_of all child) t) (sym now)
+            (subst (λ (n : SearchNode). IsNodeAt case Obeys best bound child (ranges_at case.book up) n (state_at states child)) (sym (old-node child inside)) (held.popped.grown.each child up inside is))
 
-    side-ranges : (side : Bool) (up : List Step) → WayNew states number line at side up → narrowed case.book.lines ranges line at side ≡ ranges_at case.book.lines up
+    side-ranges : (side : Bool) (up : List Step) → WayNew states number line at side up → narrowed case.book ranges (part.Line line) at side ≡ ranges_at case.book up
     side-ranges side up new =
-        ap (λ (r : List Interval). narrowed case.book.lines r line at side) (held.ranged new.above new.rest) ∙ ap (ranges_at case.book.lines) (sym new.own)
+        ap (λ (r : RangesContents). narrowed case.book r (part.Line line) at side) (held.ranged new.above new.rest) ∙ ap (ranges_at case.book) (sym new.own)
 
-    node-at : (child : ℕ) (up : List Step) → child < length states + 2 → IsWay after child up → IsNodeAt case Obeys best bound child (ranges_at case.book.lines up) (node_of all child) (state_at after child)
+    node-at : (child : ℕ) (up : List Step) → child < length states + 2 → IsWay after child up → IsNodeAt case Obeys best bound child (ranges_at case.book up) (node_of all child) (state_at after child)
     node-at child up inside is = elim (cases_lt child (length states)) [
       | inl old ↦ old-at child up old (way-old states number line at left.bound right.bound few child up old is)
       | inr new ↦ elim (cases_lt (length states) child) [
         | inl right_one ↦
             let own : child ≡ length states + 1 = omega (arith, right_one, inside) in
             let ranged = side-ranges true up (way-new states number line at left.bound right.bound few whole child true own up is) in
-            subst (λ (k : ℕ). IsNodeAt case Obeys best bound k (ranges_at case.book.lines up) (node_of all k) (state_at after k)) (sym own)
-            (subst (λ (t : State). IsNodeAt case Obeys best bound (length states + 1) (ranges_at case.book.lines up) (node_of all (length states + 1)) t) (sym second-state)
-            (subst (λ (n : SearchNode). IsNodeAt case Obeys best bound (length states + 1) (ranges_at case.book.lines up) n (state.Waiting right.bound)) (sym second-node)
-            (split-node case Obeys best bound (length states + 1) (ranges_at case.book.lines up) right (subst (λ (r : List Interval). IsPriced case r right) ranged right_priced) right_up)))
+            subst (λ (k : ℕ). IsNodeAt case Obeys best bound k (ranges_at case.book up) (node_of all k) (state_at after k)) (sym own)
+            (subst (λ (t : State). IsNodeAt case Obeys best bound (length states + 1) (ranges_at case.book up) (node_of all (length states + 1)) t) (sym second-state)
+            (subst (λ (n : SearchNode). IsNodeAt case Obeys best bound (length states + 1) (ranges_at case.book up) n (state.Waiting right.bound)) (sym second-node)
+            (split-node case Obeys best bound (length states + 1) (ranges_at case.book up) right (subst (λ (r : RangesContents). IsPriced case r right) ranged right_priced) right_up)))
         | inr left_one ↦
             let own : child ≡ length states = omega (arith, left_one, new) in
             let ranged = side-ranges false up (way-new states number line at left.bound right.bound few whole child false own up is) in
-            subst (λ (k : ℕ). IsNodeAt case Obeys best bound k (ranges_at case.book.lines up) (node_of all k) (state_at after k)) (sym own)
-            (subst (λ (t : State). IsNodeAt case Obeys best bound (length states) (ranges_at case.book.lines up) (node_of all (length states)) t) (sym first-state)
-            (subst (λ (n : SearchNode). IsNodeAt case Obeys best bound (length states) (ranges_at case.book.lines up) n (state.Waiting left.bound)) (sym first-node)
-            (split-node case Obeys best bound (length states) (ranges_at case.book.lines up) left (subst (λ (r : List Interval). IsPriced case r left) ranged left_priced) left_up)))
+            subst (λ (k : ℕ). IsNodeAt case Obeys best bound k (ranges_at case.book up) (node_of all k) (state_at after k)) (sym own)
+            (subst (λ (t : State). IsNodeAt case Obeys best bound (length states) (ranges_at case.book up) (node_of all (length states)) t) (sym first-state)
+            (subst (λ (n : SearchNode). IsNodeAt case Obeys best bound (length states) (ranges_at case.book up) n (state.Waiting left.bound)) (sym first-node)
+            (split-node case Obeys best bound (length states) (ranges_at case.book up) left (subst (λ (r : RangesContents). IsPriced case r left) ranged left_priced) left_up)))
       ]
     ]
 

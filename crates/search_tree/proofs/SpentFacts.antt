@@ -14,12 +14,12 @@ use Rattle.cash_table.specs.Points.{is_excluded, is_within_limit}
 use Rattle.dual_bound.specs.LeafBound.{least_cost_of}
 use Rattle.dual_bound.proofs.TreeFacts.{rival-bears_out}
 use Rattle.dual_bound.specs.Closing.{is_closed_point, is_weak}
-use Rattle.node_ranges.specs.Ranges.{is_single, narrowed, root_of}
+use Rattle.node_ranges.specs.Ranges.{RangesContents, is_single, narrowed, root_of}
 use Rattle.node_ranges.specs.Claims.{bears_out, costs_enough, is_bad_split, low_ends, placed_nodes}
 use Rattle.proof_tree.specs.declared.prices.TheConstants.{PRICE_SCALE}
-use Rattle.proof_tree.specs.declared.interval.Interval.{Interval}
 use Rattle.proof_tree.specs.declared.tree.TreeNode.{TreeNode}
 use Rattle.proof_tree.specs.declared.tree.TreeNode.TheVariants as node
+use Rattle.proof_tree.specs.declared.tree.Part.TheVariants as part
 use Rattle.halving_tree.specs.Base.{base_leaf}
 use Rattle.halving_tree.specs.Halving.{End, HasMoreNodes, IsUpperPart, Split as Halved, Splits, claim_within, is_borne_out, is_end, is_unreached, node_count}
 use Rattle.node_pool.specs.Pool.{IsOneTree, SplitsAreWhole, state_at}
@@ -28,10 +28,9 @@ use Rattle.node_pool.specs.Way.{IsStep, IsWay, Step, ranges_at}
 use Rattle.node_pool.specs.declared.node.NodeId.{NodeId}
 use Rattle.node_pool.specs.declared.node.State.{State}
 use Rattle.node_pool.specs.declared.node.State.TheVariants as state
-use Rattle.offer_book.specs.Book.{IsBook}
+use Rattle.offer_book.specs.Book.{BookContents, IsBook}
 use Rattle.offer_book.specs.Portfolio.{cost}
 use Rattle.offer_book.specs.Rival.{IsRival}
-use Rattle.offer_book.specs.declared.line.Line.{Line}
 use Rattle.search_tree.proofs.Count.{nodes-all}
 use Rattle.search_tree.proofs.EndFacts.{EndsAt, HasShown, IsEndAt, IsEndTree, IsWritten, all-at, ends-end, ends_of, split-there, weak-by, well-written}
 use Rattle.search_tree.proofs.ClosedFacts.{IsBorneNode, closed-shown, node-bears}
@@ -67,7 +66,7 @@ claim-open case best base bound (Ok built) is covers up not_borne = by (is_withi
     by true within = lower best (covers built is within) not_borne
     by false within = refl
 
-pub goes-on : (case : CaseContents) (best : Option ℕ) (ranges : List Interval) (bound : ℤ) → CoversBackward case best → least_cost_of (case.limit - 1) case.book ranges (base_leaf case.book) ≤ℤ bound → GoesOn case best ranges bound
+pub goes-on : (case : CaseContents) (best : Option ℕ) (ranges : RangesContents) (bound : ℤ) → CoversBackward case best → least_cost_of (case.limit - 1) case.book ranges (base_leaf case.book) ≤ℤ bound → GoesOn case best ranges bound
     → is_end case ranges ≡ false
 goes-on case best ranges bound covers up open_node =
     none (is_single ranges) (is_borne_out case ranges) (is_unreached case ranges) open_node.several
@@ -109,7 +108,7 @@ over-bound case bound cents best is not_borne = by bound cents best case.allowan
     by bound cents best allowance one other = omega (arith, ints, one, other)
 
 -- ---- the tree, once its waiting nodes are closed
-abbrev Settled : CaseContents → ℕ → List Interval → SearchNode → Type 0
+abbrev Settled : CaseContents → ℕ → RangesContents → SearchNode → Type 0
 Settled case cents ranges own = (is_weak case (Some (pos cents)) (end_node case.book.needs own, ranges) ≡ false) × HasShown case ranges own
 
 higher-borne : (bound higher : ℤ) (cents : ℕ) → bound ≤ℤ higher → bears_out bound (Some (pos cents)) ≡ true → bears_out higher (Some (pos cents)) ≡ true
@@ -122,7 +121,7 @@ claim-settled case bound cents (Some own) over borne = by bound cents own case.a
     by : (bound : ℤ) (cents own allowance : ℕ) → cents + allowance < own → bears_out bound (Some (pos own -ℤ pos allowance)) ≡ true → bears_out bound (Some (pos cents)) ≡ true
     by bound cents own allowance less borne = grind (arith, ints)
 
-point-settled : (case : CaseContents) (cents : ℕ) (best : Option ℕ) (ranges : List Interval) → ((own : ℕ) → best ≡ Some own → cents + case.allowance < own) → is_closed_point case (option_map pos best) ranges ≡ true
+point-settled : (case : CaseContents) (cents : ℕ) (best : Option ℕ) (ranges : RangesContents) → ((own : ℕ) → best ≡ Some own → cents + case.allowance < own) → is_closed_point case (option_map pos best) ranges ≡ true
     → is_closed_point case (Some (pos cents)) ranges ≡ true
 point-settled case cents best ranges over is =
     more (is_single ranges) (is_excluded case.book (case.limit - 1) (low_ends ranges)) (costs_enough case.book (option_map pos best) (low_ends ranges)) (costs_enough case.book (Some (pos cents)) (low_ends ranges)) (by best over) is
@@ -136,7 +135,7 @@ point-settled case cents best ranges over is =
     by None over enough = absurd (cc)
     by (Some own) over enough = (let less = over own refl in grind (arith, ints))
 
-closed-settled : (case : CaseContents) (cents : ℕ) (best : Option ℕ) (ranges : List Interval) (own : SearchNode) → ((cost : ℕ) → best ≡ Some cost → cents + case.allowance < cost) → IsPriced case ranges own.priced
+closed-settled : (case : CaseContents) (cents : ℕ) (best : Option ℕ) (ranges : RangesContents) (own : SearchNode) → ((cost : ℕ) → best ≡ Some cost → cents + case.allowance < cost) → IsPriced case ranges own.priced
     → IsClosedBy case best ranges own.priced.bound own.closing → Settled case cents ranges own
 closed-settled case cents best ranges own over priced closed = (
   weak-by case (Some (pos cents)) ranges own priced
@@ -149,7 +148,7 @@ closed-settled case cents best ranges own over priced closed = (
 )
 
 -- a node that waited
-waited-settled : (case : CaseContents) (cents : ℕ) (ranges : List Interval) (own : SearchNode) → IsPriced case ranges own.priced → bears_out own.priced.bound (Some (pos cents)) ≡ true
+waited-settled : (case : CaseContents) (cents : ℕ) (ranges : RangesContents) (own : SearchNode) → IsPriced case ranges own.priced → bears_out own.priced.bound (Some (pos cents)) ≡ true
     → Settled case cents ranges (record own { closing = closing.Borne })
 waited-settled case cents ranges own priced borne = (
   weak-by case (Some (pos cents)) ranges (record own { closing = closing.Borne }) priced (λ none. absurd (cc)) (λ is. borne) (λ day is. absurd (cc)) (λ leaf is. absurd (cc)) (λ is. absurd (cc)),
@@ -157,7 +156,7 @@ waited-settled case cents ranges own priced borne = (
 )
 
 -- each node, by its state before
-node-settled : (case : CaseContents) (Obeys : List Interval → ℕ → ℕ → Type 0) (best : Option ℕ) (cents : ℕ) (popped : ℤ) (number : ℕ) (ranges : List Interval) (own after : SearchNode) (s t : State) → ((cost : ℕ) → best ≡ Some cost → cents + case.allowance < cost)
+node-settled : (case : CaseContents) (Obeys : RangesContents → ℕ → ℕ → Type 0) (best : Option ℕ) (cents : ℕ) (popped : ℤ) (number : ℕ) (ranges : RangesContents) (own after : SearchNode) (s t : State) → ((cost : ℕ) → best ≡ Some cost → cents + case.allowance < cost)
     → bears_out popped (Some (pos cents)) ≡ true → (s ≡ state.InHand → ⊥) → IsNodeAt case Obeys best popped number ranges own s → IsDrainedNode number s own t after
     → IsEndAt case Obeys popped (Settled case cents) number ranges after t
 node-settled case Obeys best cents popped number ranges own after (state.Waiting key) t over borne hand is drained =
@@ -197,7 +196,7 @@ way-before before after drained number (step ∷ above) way =
       way-before before after drained way.0 above way.2,
     )
 
-pub settled-tree : (case : CaseContents) (Obeys : List Interval → ℕ → ℕ → Type 0) (best : Option ℕ) (cents : ℕ) (popped : ℤ) (before after : TreeContents) → ((cost : ℕ) → best ≡ Some cost → cents + case.allowance < cost) → bears_out popped (Some (pos cents)) ≡ true
+pub settled-tree : (case : CaseContents) (Obeys : RangesContents → ℕ → ℕ → Type 0) (best : Option ℕ) (cents : ℕ) (popped : ℤ) (before after : TreeContents) → ((cost : ℕ) → best ≡ Some cost → cents + case.allowance < cost) → bears_out popped (Some (pos cents)) ≡ true
     → IsKept case Obeys best popped before.pool.states before.nodes → IsDrained before after → IsOneTree after.pool.states → SplitsAreWhole after.pool.states → AreEnded after.pool.states → IsEndTree case Obeys popped (Settled case cents) after
 settled-tree case Obeys best cents popped before after over borne kept drained one whole ended = record {
   one = one;
@@ -205,26 +204,26 @@ settled-tree case Obeys best cents popped before after over borne kept drained o
   ended = ended;
   each = λ number way few is. (
       let inside : number < length before.pool.states = omega (arith, few, drained.states) in
-      node-settled case Obeys best cents popped number (ranges_at case.book.lines way) (node_of before.nodes number) (node_of after.nodes number) (state_at before.pool.states number) (state_at after.pool.states number) over borne
+      node-settled case Obeys best cents popped number (ranges_at case.book way) (node_of before.nodes number) (node_of after.nodes number) (state_at before.pool.states number) (state_at after.pool.states number) over borne
       (kept.none number inside) (kept.grown.each number way inside (way-before before after drained number way is)) (drained.each number inside));
 }
 
 -- ---- what the tree shows
-pub holds-bound : (case : CaseContents) (Obeys : List Interval → ℕ → ℕ → Type 0) (cents : ℕ) (popped : ℤ) (tree : TreeContents) (shape : Tree) (nodes : List TreeNode) → IsBook case.book → IsEndTree case Obeys popped (Settled case cents) tree → IsWritten case tree shape nodes → HoldsBound case nodes cents
+pub holds-bound : (case : CaseContents) (Obeys : RangesContents → ℕ → ℕ → Type 0) (cents : ℕ) (popped : ℤ) (tree : TreeContents) (shape : Tree) (nodes : List TreeNode) → IsBook case.book → IsEndTree case Obeys popped (Settled case cents) tree → IsWritten case tree shape nodes → HoldsBound case nodes cents
 holds-bound case Obeys cents popped tree shape nodes limits is made = record {
   proper = (well-written case Obeys popped (Settled case cents) tree shape nodes limits is (λ ranges own closed. closed.1) made).proper;
   closed = subst (λ (ns : List TreeNode). All (λ p. is_weak case (Some (pos cents)) p ≡ false) (placed_nodes case.book ns)) (sym made.nodes_are)
-      (all-placed case.book.lines (λ p. is_weak case (Some (pos cents)) p ≡ false) (ends_of case tree) shape (root_of case.book.lines) (ends-end case tree)
+      (all-placed case.book (λ p. is_weak case (Some (pos cents)) p ≡ false) (ends_of case tree) shape (root_of case.book) (ends-end case tree)
       (all-at case Obeys popped (Settled case cents) (λ p. is_weak case (Some (pos cents)) p ≡ false) tree shape is made.shape_is (λ number ranges line at priced split tight. refl) (λ number ranges priced closed tight. closed.0) limits));
 }
 
-steps-most : (case : CaseContents) (cents : ℕ) (popped : ℤ) (ranges : List Interval) (own : SearchNode) → IsWorthAtMost cents popped → IsPriced case ranges own.priced → own.priced.bound ≤ℤ popped → AreStepsAtMost case cents ranges
+steps-most : (case : CaseContents) (cents : ℕ) (popped : ℤ) (ranges : RangesContents) (own : SearchNode) → IsWorthAtMost cents popped → IsPriced case ranges own.priced → own.priced.bound ≤ℤ popped → AreStepsAtMost case cents ranges
 steps-most case cents popped ranges own most priced low = record {
   base = omega (arith, ints, priced.improved.given, priced.bound, low, most);
   steps = λ step is. omega (arith, ints, priced.improved.steps step is, priced.bound, low, most);
 }
 
-end-needed : (case : CaseContents) (cents : ℕ) (ranges : List Interval) (own : SearchNode) → IsNeededSplit case cents (end_node case.book.needs own, ranges)
+end-needed : (case : CaseContents) (cents : ℕ) (ranges : RangesContents) (own : SearchNode) → IsNeededSplit case cents (end_node case.book.needs own, ranges)
 end-needed case cents ranges own = by own.closing
   where
     by : (how : Closing) → IsNeededSplit case cents (end_by case.book.needs own.priced.leaf how, ranges)
@@ -234,11 +233,11 @@ end-needed case cents ranges own = by own.closing
     by (closing.Infeasible leaf) = tt
     by closing.Point = tt
 
-pub needed-splits : (case : CaseContents) (Obeys : List Interval → ℕ → ℕ → Type 0) (cents : ℕ) (popped : ℤ) (tree : TreeContents) (shape : Tree) (nodes : List TreeNode) → IsBook case.book → IsWorthAtMost cents popped → IsEndTree case Obeys popped (Settled case cents) tree
+pub needed-splits : (case : CaseContents) (Obeys : RangesContents → ℕ → ℕ → Type 0) (cents : ℕ) (popped : ℤ) (tree : TreeContents) (shape : Tree) (nodes : List TreeNode) → IsBook case.book → IsWorthAtMost cents popped → IsEndTree case Obeys popped (Settled case cents) tree
     → IsWritten case tree shape nodes → All (IsNeededSplit case cents) (placed_nodes case.book nodes)
 needed-splits case Obeys cents popped tree shape nodes limits most is made =
     subst (λ (ns : List TreeNode). All (IsNeededSplit case cents) (placed_nodes case.book ns)) (sym made.nodes_are)
-    (all-placed case.book.lines (IsNeededSplit case cents) (ends_of case tree) shape (root_of case.book.lines) (ends-end case tree)
+    (all-placed case.book (IsNeededSplit case cents) (ends_of case tree) shape (root_of case.book) (ends-end case tree)
     (all-at case Obeys popped (Settled case cents) (IsNeededSplit case cents) tree shape is made.shape_is
     (λ number ranges line at priced split tight. steps-most case cents popped ranges (node_of tree.nodes number) most priced split.low)
     (λ number ranges priced closed tight. end-needed case cents ranges (node_of tree.nodes number)) limits))
@@ -259,21 +258,21 @@ root-split states number (step ∷ above) way = inr (elim (root-split states way
 ])
 
 -- at the root neither the base leaf nor any of its steps is worth more
-root-low : (case : CaseContents) (Obeys : List Interval → ℕ → ℕ → Type 0) (best : Option ℕ) (bound : ℤ) (tree : TreeContents) (s : State) → IsNodeAt case Obeys best bound 0 (root_of case.book.lines) (node_of tree.nodes 0) s
+root-low : (case : CaseContents) (Obeys : RangesContents → ℕ → ℕ → Type 0) (best : Option ℕ) (bound : ℤ) (tree : TreeContents) (s : State) → IsNodeAt case Obeys best bound 0 (root_of case.book) (node_of tree.nodes 0) s
     → ((s ≡ state.Waiting bound) ⊎ ((line : ℕ) × (at : ℕ) × (left : NodeId) × (right : NodeId) × (s ≡ state.Split line at left right))) → (node_of tree.nodes 0).priced.bound ≤ℤ bound
 root-low case Obeys best bound tree s here (inl waits) =
-    let stands = subst (IsAt case Obeys best bound 0 (root_of case.book.lines) (node_of tree.nodes 0)) waits here.stands in
+    let stands = subst (IsAt case Obeys best bound 0 (root_of case.book) (node_of tree.nodes 0)) waits here.stands in
     omega (arith, ints, stands.0)
 root-low case Obeys best bound tree s here (inr split) =
-    let stands = subst (IsAt case Obeys best bound 0 (root_of case.book.lines) (node_of tree.nodes 0)) split.4 here.stands in
+    let stands = subst (IsAt case Obeys best bound 0 (root_of case.book) (node_of tree.nodes 0)) split.4 here.stands in
     stands.0.low
 
-pub root-steps : (case : CaseContents) (Obeys : List Interval → ℕ → ℕ → Type 0) (best : Option ℕ) (bound : ℤ) (cents : ℕ) (tree : TreeContents) → IsOneTree tree.pool.states → IsStuck case Obeys best bound tree.pool.states tree.nodes → IsWorthAtMost cents bound
-    → AreStepsAtMost case cents (root_of case.book.lines)
+pub root-steps : (case : CaseContents) (Obeys : RangesContents → ℕ → ℕ → Type 0) (best : Option ℕ) (bound : ℤ) (cents : ℕ) (tree : TreeContents) → IsOneTree tree.pool.states → IsStuck case Obeys best bound tree.pool.states tree.nodes → IsWorthAtMost cents bound
+    → AreStepsAtMost case cents (root_of case.book)
 root-steps case Obeys best bound cents tree one stuck most =
     let here = stuck.kept.grown.each 0 [] (omega (arith, one.some)) refl in
     let way = some-way tree.pool.states stuck.number one stuck.there in
-    steps-most case cents bound (root_of case.book.lines) (node_of tree.nodes 0) most here.priced
+    steps-most case cents bound (root_of case.book) (node_of tree.nodes 0) most here.priced
     (root-low case Obeys best bound tree (state_at tree.pool.states 0) here (elim (root-split tree.pool.states stuck.number way.0 way.1) [
       | inl root ↦ inl (ap (state_at tree.pool.states) (sym root) ∙ stuck.waits)
       | inr split ↦ inr split
@@ -306,33 +305,33 @@ part-count stuck line at (Split own_line own_at left right) =
 -- a leaf that is there occurs
 abbrev mark_where : Bool → TreeNode
 mark_where true = node.Point
-mark_where false = node.Closed (record { rho = PRICE_SCALE; mu = 0; prices = [] })
+mark_where false = node.Closed (record { rho = PRICE_SCALE; mu = 0; prices = []; weights = [] })
 
 abbrev mark : ℕ → ℕ → TreeNode
 mark stuck number = mark_where (number == stuck)
 
-abbrev IsUnmarked : TreeNode × List Interval → Type 0
+abbrev IsUnmarked : TreeNode × RangesContents → Type 0
 IsUnmarked p = p.0 ≡ node.Point → ⊥
 
 unmarked-leaf : (b : Bool) → one_where b ≡ 0 → mark_where b ≡ node.Point → ⊥
 unmarked-leaf true none same = absurd (omega (arith, none))
 unmarked-leaf false none same = absurd (cc)
 
-unmarked : (lines : List Line) (stuck : ℕ) (tree : Tree) (ranges : List Interval) → occurs_in stuck tree ≡ 0 → AllAt lines IsUnmarked (mark stuck) tree ranges
-unmarked lines stuck (TreeLeaf number) ranges none = unmarked-leaf (number == stuck) none
-unmarked lines stuck (Split line at left right) ranges none = (
+unmarked : (book : BookContents) (stuck : ℕ) (tree : Tree) (ranges : RangesContents) → occurs_in stuck tree ≡ 0 → AllAt book IsUnmarked (mark stuck) tree ranges
+unmarked book stuck (TreeLeaf number) ranges none = unmarked-leaf (number == stuck) none
+unmarked book stuck (Split line at left right) ranges none = (
   λ same. absurd (cc),
-  unmarked lines stuck left (narrowed lines ranges line at false) (omega (arith, none)),
-  unmarked lines stuck right (narrowed lines ranges line at true) (omega (arith, none)),
+  unmarked book stuck left (narrowed book ranges (part.Line line) at false) (omega (arith, none)),
+  unmarked book stuck right (narrowed book ranges (part.Line line) at true) (omega (arith, none)),
 )
 
-occurs-some : (lines : List Line) (states : List State) (shape : Tree) (stuck : ℕ) (way : List Step) → IsTreeOf states 0 shape → IsWay states stuck way → state_at states stuck ≡ state.Closed stuck → 1 ≤ occurs_in stuck shape
-occurs-some lines states shape stuck way shape_is way_is closed = by (occurs_in stuck shape) refl
+occurs-some : (book : BookContents) (states : List State) (shape : Tree) (stuck : ℕ) (way : List Step) → IsTreeOf states 0 shape → IsWay states stuck way → state_at states stuck ≡ state.Closed stuck → 1 ≤ occurs_in stuck shape
+occurs-some book states shape stuck way shape_is way_is closed = by (occurs_in stuck shape) refl
   where
     by : (count : ℕ) → occurs_in stuck shape ≡ count → 1 ≤ occurs_in stuck shape
     by zero none = absurd (
-        let below = to-nodes lines IsUnmarked (mark stuck) states shape stuck way shape_is (unmarked lines stuck shape (root_of lines) none) way_is in
-        leaf-holds lines IsUnmarked (mark stuck) states stuck stuck (ranges_at lines way) below closed
+        let below = to-nodes book IsUnmarked (mark stuck) states shape stuck way shape_is (unmarked book stuck shape (root_of book) none) way_is in
+        leaf-holds book IsUnmarked (mark stuck) states stuck stuck (ranges_at book way) below closed
         (ap mark_where (same stuck)))
       where
         same : (n : ℕ) → (n == n) ≡ true
@@ -346,38 +345,38 @@ closed-there states number leaf closed = elim (cases_lt number (length states)) 
   | inr past ↦ absurd (let clash : state.InHand ≡ state.Closed leaf = sym (get_or_past states number state.InHand past) ∙ closed in cc)
 ]
 
-upper-part : (case : CaseContents) (Obeys : List Interval → ℕ → ℕ → Type 0) (popped : ℤ) (Closes : List Interval → SearchNode → Type 0) (tree : TreeContents) (stuck line at : ℕ) (shape : Tree) (number : ℕ) (way : List Step) → IsEndTree case Obeys popped Closes tree
-    → ((ranges : List Interval) (line at : ℕ) → Obeys ranges line at → IsHalvingSplit case ranges line at) → ((up : List Step) → IsWay tree.pool.states stuck up → Obeys (ranges_at case.book.lines up) line at)
-    → IsTreeOf tree.pool.states number shape → IsWay tree.pool.states number way → IsUpperPart case (ranges_at case.book.lines way) (part_of stuck line at shape)
+upper-part : (case : CaseContents) (Obeys : RangesContents → ℕ → ℕ → Type 0) (popped : ℤ) (Closes : RangesContents → SearchNode → Type 0) (tree : TreeContents) (stuck line at : ℕ) (shape : Tree) (number : ℕ) (way : List Step) → IsEndTree case Obeys popped Closes tree
+    → ((ranges : RangesContents) (line at : ℕ) → Obeys ranges line at → IsHalvingSplit case ranges line at) → ((up : List Step) → IsWay tree.pool.states stuck up → Obeys (ranges_at case.book up) line at)
+    → IsTreeOf tree.pool.states number shape → IsWay tree.pool.states number way → IsUpperPart case (ranges_at case.book way) (part_of stuck line at shape)
 upper-part case Obeys popped Closes tree stuck line at (TreeLeaf leaf) number way is halves obeys shape_is way_is = by (leaf == stuck) refl
   where
     own : leaf ≡ number
-    own = (subst (EndsAt case Obeys popped Closes number (ranges_at case.book.lines way) (node_of tree.nodes number)) shape_is
+    own = (subst (EndsAt case Obeys popped Closes number (ranges_at case.book way) (node_of tree.nodes number)) shape_is
         (is.each number way (closed-there tree.pool.states number leaf shape_is) way_is).ends).0
 
-    by : (b : Bool) → (leaf == stuck) ≡ b → IsUpperPart case (ranges_at case.book.lines way) (if b then Halved line at End End else End)
+    by : (b : Bool) → (leaf == stuck) ≡ b → IsUpperPart case (ranges_at case.book way) (if b then Halved line at End End else End)
     by false other = tt
     by true same =
         let equal : number ≡ stuck = sym own ∙ grind (arith, nat_tests, same) in
-        let split = halves (ranges_at case.book.lines way) line at (obeys way (subst (λ (k : ℕ). IsWay tree.pool.states k way) equal way_is)) in
+        let split = halves (ranges_at case.book way) line at (obeys way (subst (λ (k : ℕ). IsWay tree.pool.states k way) equal way_is)) in
         (split.goes_on, split.halved, tt, tt)
 upper-part case Obeys popped Closes tree stuck line at (Split own_line own_at left right) number way is halves obeys shape_is way_is =
     let here = is.each number way (split-there tree.pool.states number own_line own_at shape_is.0 shape_is.1 shape_is.2) way_is in
-    let split : IsSplitNode case Obeys popped (ranges_at case.book.lines way) (node_of tree.nodes number).priced own_line own_at =
-    subst (EndsAt case Obeys popped Closes number (ranges_at case.book.lines way) (node_of tree.nodes number)) shape_is.2 here.ends in
-    let halved = halves (ranges_at case.book.lines way) own_line own_at split.obeys in (
+    let split : IsSplitNode case Obeys popped (ranges_at case.book way) (node_of tree.nodes number).priced own_line own_at =
+    subst (EndsAt case Obeys popped Closes number (ranges_at case.book way) (node_of tree.nodes number)) shape_is.2 here.ends in
+    let halved = halves (ranges_at case.book way) own_line own_at split.obeys in (
       halved.goes_on,
       halved.halved,
       upper-part case Obeys popped Closes tree stuck line at left shape_is.0.0 (record { line = own_line; at = own_at; right = false } ∷ way) is halves obeys shape_is.3 (left-way tree.pool.states number own_line own_at shape_is.0 shape_is.1 way shape_is.2 way_is),
       upper-part case Obeys popped Closes tree stuck line at right shape_is.1.0 (record { line = own_line; at = own_at; right = true } ∷ way) is halves obeys shape_is.4 (right-way tree.pool.states number own_line own_at shape_is.0 shape_is.1 way shape_is.2 way_is),
     )
 
-pub has-more : (case : CaseContents) (Obeys : List Interval → ℕ → ℕ → Type 0) (popped : ℤ) (Closes : List Interval → SearchNode → Type 0) (tree : TreeContents) (stuck line at : ℕ) (shape : Tree) (nodes : List TreeNode) → IsEndTree case Obeys popped Closes tree
+pub has-more : (case : CaseContents) (Obeys : RangesContents → ℕ → ℕ → Type 0) (popped : ℤ) (Closes : RangesContents → SearchNode → Type 0) (tree : TreeContents) (stuck line at : ℕ) (shape : Tree) (nodes : List TreeNode) → IsEndTree case Obeys popped Closes tree
     → IsWritten case tree shape nodes → stuck < length tree.pool.states → state_at tree.pool.states stuck ≡ state.Closed stuck
-    → ((ranges : List Interval) (line at : ℕ) → Obeys ranges line at → IsHalvingSplit case ranges line at) → ((up : List Step) → IsWay tree.pool.states stuck up → Obeys (ranges_at case.book.lines up) line at) → case.budget < length nodes + 2 → HasMoreNodes case case.budget
+    → ((ranges : RangesContents) (line at : ℕ) → Obeys ranges line at → IsHalvingSplit case ranges line at) → ((up : List Step) → IsWay tree.pool.states stuck up → Obeys (ranges_at case.book up) line at) → case.budget < length nodes + 2 → HasMoreNodes case case.budget
 has-more case Obeys popped Closes tree stuck line at shape nodes is made few closed halves obeys full =
     let way = some-way tree.pool.states stuck is.one few in
-    let some = occurs-some case.book.lines tree.pool.states shape stuck way.0 made.shape_is way.1 closed in
+    let some = occurs-some case.book tree.pool.states shape stuck way.0 made.shape_is way.1 closed in
     record {
       part = part_of stuck line at shape;
       upper = upper-part case Obeys popped Closes tree stuck line at shape 0 [] is halves obeys made.shape_is refl;
@@ -388,7 +387,7 @@ has-more case Obeys popped Closes tree stuck line at shape nodes is made few clo
 drained-stuck : (number : ℕ) (key : ℤ) (s t : State) (own after : SearchNode) → s ≡ state.Waiting key → IsDrainedNode number s own t after → (t ≡ state.Closed number) × (after ≡ record own { closing = closing.Borne })
 drained-stuck number key s t own after is drained = subst (λ (u : State). IsDrainedNode number u own t after) is drained
 
-pub full-shows : (case : CaseContents) (Obeys : List Interval → ℕ → ℕ → Type 0) (best : Option ℕ) (bound : ℤ) (cents : ℕ) (before after : TreeContents) (shape : Tree) (nodes : List TreeNode) → IsFull case Obeys best bound before after → IsWritten case after shape nodes
+pub full-shows : (case : CaseContents) (Obeys : RangesContents → ℕ → ℕ → Type 0) (best : Option ℕ) (bound : ℤ) (cents : ℕ) (before after : TreeContents) (shape : Tree) (nodes : List TreeNode) → IsFull case Obeys best bound before after → IsWritten case after shape nodes
     → IsBoundOf bound cents → ShowsBound case Obeys best cents before nodes
 full-shows case Obeys best bound cents before after shape nodes full made is_bound = record {
   well = well;
@@ -431,7 +430,7 @@ full-shows case Obeys best bound cents before after shape nodes full made is_bou
     bound-same : (node_of after.nodes stuck.number).priced.bound ≡ bound
     bound-same =
         ap (λ (n : SearchNode). n.priced.bound) at.1
-        ∙ sym (subst (IsAt case Obeys best bound stuck.number (ranges_at case.book.lines way.0) (node_of before.nodes stuck.number)) stuck.waits (stuck.kept.grown.each stuck.number way.0 stuck.there way.1).stands).0
+        ∙ sym (subst (IsAt case Obeys best bound stuck.number (ranges_at case.book way.0) (node_of before.nodes stuck.number)) stuck.waits (stuck.kept.grown.each stuck.number way.0 stuck.there way.1).stands).0
 
     after-way : (w : List Step) × IsWay after.pool.states stuck.number w
     after-way = some-way after.pool.states stuck.number full.one (omega (arith, stuck.there, full.drained.states))

@@ -1,7 +1,7 @@
 -- The leaf of prices of 0, which weighs the cost: its bound is never below 0.
 use Rattle.std.proofs.Common.{◌≡◌, ◌∙◌, inl, inr, ℕ, zero, suc, ◌+◌, ◌*◌, ◌^◌, ◌≤◌, ◌==◌, Bool, true, false, if◌then◌else◌, List, [], ◌∷◌, replicate, refl, sym, ap, subst, arith, ℤ, pos, ◌+ℤ◌, ◌-ℤ◌, ◌*ℤ◌, ◌≤ℤ◌, neg_ℤ, int_le, unsigned_abs}
 use Rattle.std.specs.Int.{int_min}
-use Rattle.std.specs.List.{All, sum_by, zip}
+use Rattle.std.specs.List.{All, AllZip, sum_by, zip}
 use Rattle.std.proofs.Math.Nat.{le-mul_of_pos_right, mul-le-mul_right}
 use Rattle.std.proofs.lemmas.Bool.Decides.{nat_tests}
 use Rattle.std.proofs.lemmas.Int.{clamps, ints}
@@ -9,8 +9,9 @@ use Rattle.std.proofs.lemmas.List.Elements.{All-head, All-tail}
 use Rattle.std.proofs.lemmas.List.Sums.{sum_by-cons}
 use Rattle.std.proofs.lemmas.Nat.{le-div}
 use Rattle.dual_bound.proofs.Soundness.{all-lines}
-use Rattle.dual_bound.specs.LeafBound.{bound_of, cost_worth, form_at, form_of, least_side, least_within, limit_price, limit_multiplier, paid_worth, price_on, reduced_cost, signed_sum}
-use Rattle.node_ranges.specs.Ranges.{AreTight, IsTight}
+use Rattle.dual_bound.proofs.BoundSizes.{bound-plain, within-plain}
+use Rattle.dual_bound.specs.LeafBound.{bound_of, cost_worth, form_at, least_side, least_within, limit_multiplier, limit_price, paid_worth, price_on, priced_cost, priced_form, signed_sum}
+use Rattle.node_ranges.specs.Ranges.{AreTight, IsTight, RangesContents}
 use Rattle.proof_tree.specs.declared.prices.TheConstants.{PRICE_SCALE}
 use Rattle.dual_bound.specs.declared.form.Form.{Form}
 use Rattle.proof_tree.specs.declared.interval.Interval.{Interval}
@@ -26,7 +27,7 @@ use Rattle.offer_book.specs.declared.line.LineKind.TheVariants.{Cash, Market, Se
 use Rattle.offer_book.specs.declared.payment_days.PaymentDays.{PaymentDays}
 
 abbrev pub zeros : ℕ → Leaf
-zeros count = record { rho = PRICE_SCALE; mu = 0; prices = replicate count 0 }
+zeros count = record { rho = PRICE_SCALE; mu = 0; prices = replicate count 0; weights = [] }
 
 -- ---- nothing that is paid is worth anything
 price-zero : (needs : List Flow) (count : ℕ) (day : ℤ) → price_on needs (replicate count 0) day ≡ 0
@@ -63,8 +64,8 @@ amounts-zero f [] none = refl
 amounts-zero f (x ∷ xs) none = omega (arith, sum_by-cons f x xs, none x, amounts-zero f xs none)
 
 -- ---- one line
-reduced-some : (n : ℕ) (book : BookContents) (count : ℕ) (line : Line) (units : ℕ) → pos 0 ≤ℤ reduced_cost n book (zeros count) line units
-unfolding reduced_cost
+reduced-some : (n : ℕ) (book : BookContents) (count : ℕ) (line : Line) (units : ℕ) → pos 0 ≤ℤ priced_cost n book (zeros count) line units
+unfolding priced_cost
 reduced-some n book count line units =
     by (cost_worth (zeros count) line.kind) (signed_sum (λ flow. paid_worth n book (zeros count) line.kind flow.day *ℤ pos flow.cents.0) (line_payments book.days line units)) (line_cost line units)
     (cost-worth count line.kind)
@@ -95,8 +96,8 @@ slack-low days line is = by line.kind refl is
         subst-security : (kind : LineKind) → line.kind ≡ kind → IsSecurity days line.kind → IsSecurity days kind
         subst-security kind same is = subst (IsSecurity days) same is
 
-form-some : (n : ℕ) (book : BookContents) (count : ℕ) (line : Line) (units : ℕ) → IsLine book.days line → 1 ≤ units → pos 0 ≤ℤ form_at (form_of n book (zeros count) line) units
-unfolding form_of
+form-some : (n : ℕ) (book : BookContents) (count : ℕ) (line : Line) (units : ℕ) → IsLine book.days line → 1 ≤ units → pos 0 ≤ℤ form_at (priced_form n book (zeros count) line) units
+unfolding priced_form
 form-some n book count line units is some =
     by (cost_worth (zeros count) line.kind) (cost_coefficients line).low (cost_coefficients line).high (cost_coefficients line).slack
     (signed_sum (λ pay. least_side (neg_ℤ (paid_worth n book (zeros count) line.kind pay.day)) pay.low pay.high) (pay_coefficients book.days line))
@@ -126,16 +127,17 @@ least-some days line (inl cash) = omega (arith, cash.least)
 least-some days line (inr security) = security.least
 
 line-some : (n : ℕ) (book : BookContents) (count : ℕ) (line : Line) (interval : Interval) → IsLine book.days line → IsTight line interval → pos 0 ≤ℤ least_within n book (zeros count) line interval
-line-some n book count line interval is tight = by (interval.low == interval.high) refl (interval.low == 0) refl
+line-some n book count line interval is tight =
+    subst (λ (z : ℤ). pos 0 ≤ℤ z) (sym (within-plain n book (zeros count) line interval refl)) (by (interval.low == interval.high) refl (interval.low == 0) refl)
   where
     form : Form
-    form = form_of n book (zeros count) line
+    form = priced_form n book (zeros count) line
 
     at : (units : ℕ) → 1 ≤ units → pos 0 ≤ℤ form_at form units
     at units some = form-some n book count line units is some
 
     by : (one : Bool) → (interval.low == interval.high) ≡ one → (none : Bool) → (interval.low == 0) ≡ none
-        → pos 0 ≤ℤ (if one then reduced_cost n book (zeros count) line interval.low
+        → pos 0 ≤ℤ (if one then priced_cost n book (zeros count) line interval.low
         else if none then int_min (pos 0) (int_min (form_at form line.least) (form_at form interval.high))
         else int_min (form_at form interval.low) (form_at form interval.high))
     by true e none f = reduced-some n book count line interval.low
@@ -148,14 +150,13 @@ line-some n book count line interval is tight = by (interval.low == interval.hig
         omega (arith, ints, clamps, at interval.low (omega (arith, some)), at interval.high (omega (arith, some, tight.ordered)))
 
 -- ---- all lines
-lines-some : (n : ℕ) (book : BookContents) (count : ℕ) (lines : List Line) (ranges : List Interval) → All (IsLine book.days) lines → AreTight lines ranges
+lines-some : (n : ℕ) (book : BookContents) (count : ℕ) (lines : List Line) (ranges : List Interval) → All (IsLine book.days) lines → AllZip IsTight lines ranges
     → pos 0 ≤ℤ signed_sum (λ (p : Line × Interval). least_within n book (zeros count) p.0 p.1) (zip lines ranges)
 lines-some n book count [] ranges are tight = omega (arith, ints)
 lines-some n book count (line ∷ lines) [] are tight = absurd tight
 lines-some n book count (line ∷ lines) (interval ∷ ranges) are tight =
     omega (arith, ints, line-some n book count line interval (All-head (IsLine book.days) line lines are) tight.0, lines-some n book count lines ranges (All-tail (IsLine book.days) line lines are) tight.1)
 
-pub zeros-some : (n : ℕ) (book : BookContents) (count : ℕ) (ranges : List Interval) → IsBook book → AreTight book.lines ranges → pos 0 ≤ℤ bound_of n book ranges (zeros count)
-unfolding bound_of
+pub zeros-some : (n : ℕ) (book : BookContents) (count : ℕ) (ranges : RangesContents) → IsBook book → AreTight book ranges → pos 0 ≤ℤ bound_of n book ranges (zeros count)
 zeros-some n book count ranges limits tight =
-    omega (arith, ints, lines-some n book count book.lines ranges (all-lines book.days book.lines limits.lines) tight)
+    omega (arith, ints, bound-plain n book ranges (zeros count) refl, lines-some n book count book.lines ranges.lines (all-lines book.days book.lines limits.lines) tight.lines)

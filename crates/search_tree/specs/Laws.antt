@@ -1,14 +1,15 @@
 -- What a search's tree keeps while it grows, and what it shows in the end, as laws. This is this project's own.
-use Rattle.std.specs.Prelude.{◌≡◌, ℕ, ◌+◌, ◌-◌, ◌<◌, ◌≤◌, false, true, List, All, length, replicate, Option, Some, option_map, IsTrue, Bool, ℤ, pos, ◌≤ℤ◌}
+use Rattle.std.specs.Prelude.{◌≡◌, ℕ, ◌+◌, ◌-◌, ◌<◌, ◌≤◌, false, true, List, [], All, length, replicate, Option, Some, option_map, IsTrue, Bool, ℤ, pos, ◌≤ℤ◌}
 use Rattle.case_file.specs.Case.{CaseContents}
 use Rattle.dual_bound.specs.LeafBound.{bound_of, least_cost_of}
 use Rattle.dual_bound.specs.Closing.{is_closed_point, is_weak}
-use Rattle.node_ranges.specs.Ranges.{AreTight, is_proper, narrowed, root_of}
+use Rattle.node_ranges.specs.Ranges.{AreTight, RangesContents, is_proper, narrowed, root_of}
 use Rattle.node_ranges.specs.Claims.{Claim, bears_out, placed_nodes}
-use Rattle.proof_tree.specs.declared.interval.Interval.{Interval}
 use Rattle.proof_tree.specs.declared.tree.Leaf.{Leaf}
 use Rattle.proof_tree.specs.declared.prices.TheConstants.{PRICE_SCALE}
+use Rattle.proof_tree.specs.declared.tree.Part.{Part}
 use Rattle.proof_tree.specs.declared.tree.TreeNode.{TreeNode}
+use Rattle.proof_tree.specs.declared.tree.Part.TheVariants as part
 use Rattle.halving_tree.specs.Halving.{HasMoreNodes, is_end}
 use Rattle.halving_tree.specs.Base.{base_leaf}
 use Rattle.halving_tree.specs.declared.rule.SplitRule.{SplitRule}
@@ -33,14 +34,14 @@ use Rattle.search_tree.specs.declared.node.SearchNode.{SearchNode}
 -- the bound of a leaf doesn't fall on a side of a split
 abbrev pub BoundsRise : Type 0
 BoundsRise =
-    (n : ℕ) (book : BookContents) (leaf : Leaf) (ranges : List Interval) (line at : ℕ) (right : Bool) → IsBook book → AreTight book.lines ranges → IsTrue (is_proper ranges line at)
-    → bound_of n book ranges leaf ≤ℤ bound_of n book (narrowed book.lines ranges line at right) leaf
+    (n : ℕ) (book : BookContents) (leaf : Leaf) (ranges : RangesContents) (part : Part) (at : ℕ) (right : Bool) → IsBook book → AreTight book ranges → IsTrue (is_proper ranges part at)
+    → bound_of n book ranges leaf ≤ℤ bound_of n book (narrowed book ranges part at right) leaf
 
 -- the leaf of prices of 0, which weighs the cost, has no bound below 0
 abbrev pub ZerosAreSome : Type 0
 ZerosAreSome =
-    (n : ℕ) (book : BookContents) (count : ℕ) (ranges : List Interval) → IsBook book → AreTight book.lines ranges
-    → pos 0 ≤ℤ bound_of n book ranges (record { rho = PRICE_SCALE; mu = 0; prices = replicate count 0 })
+    (n : ℕ) (book : BookContents) (count : ℕ) (ranges : RangesContents) → IsBook book → AreTight book ranges
+    → pos 0 ≤ℤ bound_of n book ranges (record { rho = PRICE_SCALE; mu = 0; prices = replicate count 0; weights = [] })
 
 -- ---- growing
 -- a cheaper best plan leaves each closed node closed
@@ -62,34 +63,34 @@ PoppedIsKept =
 -- the node in hand is closed
 abbrev pub ClosedIsKept : Type 0
 ClosedIsKept =
-    (case : CaseContents) (rule : SplitRule) (best : Option ℕ) (tree : TreeContents) (number : ℕ) (ranges : List Interval) (how : Closing) → IsHeld case (obeys case rule) best tree.pool.states tree.nodes number ranges
+    (case : CaseContents) (rule : SplitRule) (best : Option ℕ) (tree : TreeContents) (number : ℕ) (ranges : RangesContents) (how : Closing) → IsHeld case (obeys case rule) best tree.pool.states tree.nodes number ranges
     → IsClosedBy case best ranges (node_of tree.nodes number).priced.bound how
     → HasGrown case (obeys case rule) best (closed_tree tree number how).pool.states (closed_tree tree number how).nodes
 
 -- it is split
 abbrev pub SplitIsKept : Type 0
 SplitIsKept =
-    (case : CaseContents) (rule : SplitRule) (best : Option ℕ) (tree : TreeContents) (number line at : ℕ) (ranges : List Interval) (left right : Priced) → IsHeld case (obeys case rule) best tree.pool.states tree.nodes number ranges
+    (case : CaseContents) (rule : SplitRule) (best : Option ℕ) (tree : TreeContents) (number line at : ℕ) (ranges : RangesContents) (left right : Priced) → IsHeld case (obeys case rule) best tree.pool.states tree.nodes number ranges
     → SplitsAreWhole tree.pool.states → IsSplitNode case (obeys case rule) (node_of tree.nodes number).priced.bound ranges (node_of tree.nodes number).priced line at
-    → IsPriced case (narrowed case.book.lines ranges line at false) left → (node_of tree.nodes number).priced.bound ≤ℤ left.bound
-    → IsPriced case (narrowed case.book.lines ranges line at true) right → (node_of tree.nodes number).priced.bound ≤ℤ right.bound
+    → IsPriced case (narrowed case.book ranges (part.Line line) at false) left → (node_of tree.nodes number).priced.bound ≤ℤ left.bound
+    → IsPriced case (narrowed case.book ranges (part.Line line) at true) right → (node_of tree.nodes number).priced.bound ≤ℤ right.bound
     → HasGrown case (obeys case rule) best (split_tree tree number line at left right).pool.states (split_tree tree number line at left right).nodes
 
 -- or it waits again, since there is no room for its sides
 abbrev pub StuckIsKept : Type 0
 StuckIsKept =
-    (case : CaseContents) (rule : SplitRule) (best : Option ℕ) (states : List State) (nodes : List SearchNode) (number : ℕ) (ranges : List Interval) (up : List Step) → IsWay states number up → IsHeld case (obeys case rule) best states nodes number ranges
+    (case : CaseContents) (rule : SplitRule) (best : Option ℕ) (states : List State) (nodes : List SearchNode) (number : ℕ) (ranges : RangesContents) (up : List Step) → IsWay states number up → IsHeld case (obeys case rule) best states nodes number ranges
     → GoesOn case best ranges (node_of nodes number).priced.bound → (line at : ℕ) → obeys case rule ranges line at
     → IsStuck case (obeys case rule) best (node_of nodes number).priced.bound (with_state states number (state.Waiting (node_of nodes number).priced.bound)) nodes
 
 -- a node that isn't closed is no end of the halving tree
 abbrev pub OpenGoesOn : Type 0
 OpenGoesOn =
-    (case : CaseContents) (best : Option ℕ) (ranges : List Interval) (bound : ℤ) → CoversBackward case best → least_cost_of (case.limit - 1) case.book ranges (base_leaf case.book) ≤ℤ bound
+    (case : CaseContents) (best : Option ℕ) (ranges : RangesContents) (bound : ℤ) → CoversBackward case best → least_cost_of (case.limit - 1) case.book ranges (base_leaf case.book) ≤ℤ bound
     → GoesOn case best ranges bound → is_end case ranges ≡ false
 
 -- ---- a tree without a waiting node
-pub record IsClosedTree (case : CaseContents) (Obeys : List Interval → ℕ → ℕ → Type 0) (best : Option ℕ) (popped : ℤ) (tree : TreeContents) (nodes : List TreeNode) : Type 0 where
+pub record IsClosedTree (case : CaseContents) (Obeys : RangesContents → ℕ → ℕ → Type 0) (best : Option ℕ) (popped : ℤ) (tree : TreeContents) (nodes : List TreeNode) : Type 0 where
   pub limits : IsBook case.book
   pub one : IsOneTree tree.pool.states
   pub whole : SplitsAreWhole tree.pool.states
@@ -107,12 +108,12 @@ abbrev pub ClosedTreesShow : Type 0
 ClosedTreesShow =
     (case : CaseContents) (rule : SplitRule) (best : Option ℕ) (popped : ℤ) (tree : TreeContents) (nodes : List TreeNode) (claim : Claim) → IsClosedTree case (obeys case rule) best popped tree nodes
     → ((number : ℕ) → (node_of tree.nodes number).closing ≡ closing.Borne → bears_out (node_of tree.nodes number).priced.bound claim ≡ true)
-    → ((ranges : List Interval) → is_closed_point case (option_map pos best) ranges ≡ true → is_closed_point case claim ranges ≡ true)
+    → ((ranges : RangesContents) → is_closed_point case (option_map pos best) ranges ≡ true → is_closed_point case claim ranges ≡ true)
     → ShowsClaim case tree nodes claim
 
 -- ---- a tree whose budget is spent
 -- a node is stuck, as there is no room for its sides; then each node that waits is closed by its own leaf
-pub record IsFull (case : CaseContents) (Obeys : List Interval → ℕ → ℕ → Type 0) (best : Option ℕ) (bound : ℤ) (before after : TreeContents) : Type 0 where
+pub record IsFull (case : CaseContents) (Obeys : RangesContents → ℕ → ℕ → Type 0) (best : Option ℕ) (bound : ℤ) (before after : TreeContents) : Type 0 where
   pub limits : IsBook case.book
   pub tree : IsOneTree before.pool.states
   pub stuck : IsStuck case Obeys best bound before.pool.states before.nodes
@@ -125,16 +126,16 @@ pub record IsFull (case : CaseContents) (Obeys : List Interval → ℕ → ℕ �
 -- what such a tree shows: the bound, which is the greatest that it holds, so that no rival costs less; each of its splits was needed,
 -- the best plan costs more by more than the allowance; and where each split is one of the halving tree, that has more nodes than the
 -- budget
-pub record ShowsBound (case : CaseContents) (Obeys : List Interval → ℕ → ℕ → Type 0) (best : Option ℕ) (cents : ℕ) (before : TreeContents) (nodes : List TreeNode) : Type 0 where
+pub record ShowsBound (case : CaseContents) (Obeys : RangesContents → ℕ → ℕ → Type 0) (best : Option ℕ) (cents : ℕ) (before : TreeContents) (nodes : List TreeNode) : Type 0 where
   pub well : IsWell case nodes
   pub count : length nodes ≡ length before.pool.states
   pub holds : HoldsBound case nodes cents
   pub greatest : (more : ℕ) → HoldsBound case nodes more → more ≤ cents
   pub no_rival : (rival : List ℕ) → IsRival case.limit case.book rival → cents ≤ cost case.book rival
   pub needed : All (IsNeededSplit case cents) (placed_nodes case.book nodes)
-  pub root : AreStepsAtMost case cents (root_of case.book.lines)
+  pub root : AreStepsAtMost case cents (root_of case.book)
   pub over : (own : ℕ) → best ≡ Some own → cents + case.allowance < own
-  pub larger : ((ranges : List Interval) (line at : ℕ) → Obeys ranges line at → IsHalvingSplit case ranges line at) → HasMoreNodes case case.budget
+  pub larger : ((ranges : RangesContents) (line at : ℕ) → Obeys ranges line at → IsHalvingSplit case ranges line at) → HasMoreNodes case case.budget
 
 abbrev pub FullTreesShow : Type 0
 FullTreesShow =

@@ -4,9 +4,9 @@ use Rattle.case_file.specs.Case.{CaseContents}
 use Rattle.cash_table.specs.Points.{is_within_limit}
 use Rattle.dual_bound.specs.LeafBound.{least_cost_of}
 use Rattle.dual_bound.specs.Closing.{is_weak}
+use Rattle.node_ranges.specs.Ranges.{RangesContents}
 use Rattle.node_ranges.specs.Claims.{IsProper, bears_out, low_ends, placed_nodes}
 use Rattle.proof_tree.specs.Tree.{AreTrees, IsNode}
-use Rattle.proof_tree.specs.declared.interval.Interval.{Interval}
 use Rattle.proof_tree.specs.declared.tree.Leaf.{Leaf}
 use Rattle.proof_tree.specs.declared.tree.TreeNode.{TreeNode}
 use Rattle.proof_tree.specs.declared.tree.TreeNode.TheVariants as node
@@ -17,9 +17,9 @@ use Rattle.offer_book.specs.declared.coefficients.TheConstants.{COEFFICIENT_SCAL
 
 -- ---- what leaves and splits show
 -- a leaf that weighs the cost: over the ranges of its node it shows a least cost below that of neither the base leaf nor any of its steps
-abbrev pub IsRaised : CaseContents → TreeNode × List Interval → Type 0
+abbrev pub IsRaised : CaseContents → TreeNode × RangesContents → Type 0
 IsRaised case (node.Closed leaf, ranges) = 1 ≤ leaf.rho → IsImproved (case.limit - 1) case.book ranges (base_leaf case.book) leaf
-IsRaised case (node.Split line at, ranges) = Unit {0}
+IsRaised case (node.Split part at, ranges) = Unit {0}
 IsRaised case (node.Point, ranges) = Unit {0}
 
 -- a least cost isn't above a number of cents
@@ -27,20 +27,20 @@ abbrev pub IsWorthAtMost : ℕ → ℤ → Type 0
 IsWorthAtMost cents shown = shown ≤ℤ pos (COEFFICIENT_SCALE * cents)
 
 -- over ranges neither the base leaf nor any of its steps shows a least cost of more than a number of cents
-pub record AreStepsAtMost (case : CaseContents) (cents : ℕ) (ranges : List Interval) : Type 0 where
+pub record AreStepsAtMost (case : CaseContents) (cents : ℕ) (ranges : RangesContents) : Type 0 where
   pub base : IsWorthAtMost cents (least_cost_of (case.limit - 1) case.book ranges (base_leaf case.book))
   pub steps : (step : Leaf) → IsStep (base_leaf case.book) step → IsWorthAtMost cents (least_cost_of (case.limit - 1) case.book ranges step)
 
 -- so it is at each split
-abbrev pub IsNeededSplit : CaseContents → ℕ → TreeNode × List Interval → Type 0
-IsNeededSplit case cents (node.Split line at, ranges) = AreStepsAtMost case cents ranges
+abbrev pub IsNeededSplit : CaseContents → ℕ → TreeNode × RangesContents → Type 0
+IsNeededSplit case cents (node.Split part at, ranges) = AreStepsAtMost case cents ranges
 IsNeededSplit case cents (node.Closed leaf, ranges) = Unit {0}
 IsNeededSplit case cents (node.Point, ranges) = Unit {0}
 
 -- a point doesn't both meet the needs and keep within the limit
-abbrev pub IsNoPlan : CaseContents → TreeNode × List Interval → Type 0
+abbrev pub IsNoPlan : CaseContents → TreeNode × RangesContents → Type 0
 IsNoPlan case (node.Point, ranges) = Meets case.book (low_ends ranges) → is_within_limit case.limit case.book (low_ends ranges) ≡ true → ⊥
-IsNoPlan case (node.Split line at, ranges) = Unit {0}
+IsNoPlan case (node.Split part at, ranges) = Unit {0}
 IsNoPlan case (node.Closed leaf, ranges) = Unit {0}
 
 -- ---- a bound of the whole tree

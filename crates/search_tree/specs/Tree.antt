@@ -4,6 +4,7 @@ use Rattle.node_ranges.specs.Claims.{bears_out}
 use Rattle.proof_tree.specs.declared.tree.Leaf.{Leaf}
 use Rattle.proof_tree.specs.declared.tree.TreeNode.{TreeNode}
 use Rattle.proof_tree.specs.declared.tree.TreeNode.TheVariants as node
+use Rattle.proof_tree.specs.declared.tree.Part.TheVariants as part
 use Rattle.escrow_units.specs.declared.security.Flow.{Flow}
 use Rattle.halving_tree.specs.Base.{reach_leaf}
 use Rattle.node_pool.specs.Tree.{IsPreorderOf}
@@ -61,7 +62,7 @@ end_node needs own = end_by needs own.priced.leaf own.closing
 
 -- a link of a tree in preorder as a node, where each leaf's number stands for one
 abbrev pub link_node : (ℕ → TreeNode) → Link → TreeNode
-link_node f (link.Split line at) = node.Split line at
+link_node f (link.Split line at) = node.Split (part.Line line) at
 link_node f (link.Leaf number) = f number
 
 -- nodes are a tree's, in preorder

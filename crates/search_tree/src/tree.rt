@@ -1,6 +1,6 @@
 //! The tree of a search while it grows: the pool of its nodes, and what is known at each.
 ghost use Rattle.std.specs.Prelude.{All, ◌≡◌, ◌⊎◌, ◌*◌, ◌^◌, ◌<◌, ◌≤◌, ◌+◌, ◌++◌, ◌∷◌, [], ℕ, length, List, slice_set, slice_index_or, ℤ, unsigned_abs, IfOk, IfSome, IsNone};
-ghost use Rattle.node_ranges.specs.Ranges.{AreTight};
+ghost use Rattle.node_ranges.specs.Ranges.{AreTight, root_of};
 ghost use Rattle.node_pool.specs.Pool.{IsInHand, IsLeast, IsOneTree, NoneWaits, SplitsAreWhole, pool_with, split_pool};
 ghost use Rattle.node_pool.specs.Way.{AreProper, IsWay, Step, ranges_at};
 ghost use Rattle.node_pool.specs.declared.node.State.TheVariants as state;
@@ -15,7 +15,7 @@ use halving_tree::{Split, reach_leaf};
 use node_pool::{Link, NodeId, Pool};
 use node_ranges::Ranges;
 use offer_book::Book;
-use proof_tree::{Nodes, TreeNode};
+use proof_tree::{Nodes, Part, TreeNode};
 use std::alloc::Global;
 use std::marker::Model;
 
@@ -87,14 +87,16 @@ impl SearchTree {
         self.pool.pop_least()
     }
 
-    /// Goes to the ranges of a node.
-    pub fn ranges_of(&self, node: NodeId, book: &Book, into: &mut Ranges)
-        requires way { (way : List Step) × IsWay self.now.pool.states node.0 way × AreProper book.now.lines way }
-        requires lines { length into.old ≡ length book.now.lines }
-        ensures value { (way : List Step) → IsWay self.now.pool.states node.0 way → AreProper book.now.lines way → into.new ≡ ranges_at book.now.lines way }
-        ensures tight { AreTight book.now.lines into.new }
+    /// Goes to the ranges of a node; those of the root are given. It takes no memory.
+    pub fn ranges_of(&self, node: NodeId, book: &Book, root: &Ranges, into: &mut Ranges)
+        requires way { (way : List Step) × IsWay self.now.pool.states node.0 way × AreProper book.now way }
+        requires root { root.now ≡ root_of book.now }
+        requires lines { length into.old.lines ≡ length root.now.lines }
+        requires sums { length into.old.sums ≡ length root.now.sums }
+        ensures value { (way : List Step) → IsWay self.now.pool.states node.0 way → AreProper book.now way → into.new ≡ ranges_at book.now way }
+        ensures tight { AreTight book.now into.new }
     {
-        self.pool.box_of(node, book, into);
+        self.pool.box_of(node, book, root, into);
     }
 
     /// What is known at a node.
@@ -186,7 +188,10 @@ impl SearchTree {
         ensures { IfOk result (λ next. next ≡ link_node (λ number. end_node book.now.needs (node_of self.now.nodes number)) link) }
     {
         match link {
-            Link::Split { line, at } => Ok(TreeNode::Split { line, at }),
+            Link::Split { line, at } => Ok(TreeNode::Split {
+                part: Part::Line(line),
+                at,
+            }),
             Link::Leaf(number) => closed_node(alloc, book, &self.nodes[number as usize]),
         }
     }

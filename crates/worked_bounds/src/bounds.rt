@@ -41,7 +41,7 @@ fn bound_anew(
     requires own { columns.old.book ≡ book.now }
     requires powers { IsLowTable powers.now }
     requires leaf { IsLeaf (length book.now.needs) leaf.now }
-    requires tight { AreTight book.now.lines ranges.now }
+    requires tight { AreTight book.now ranges.now }
     ensures { columns.new.book ≡ book.now }
 {
     let anew = bound(book, powers, ranges, leaf);

@@ -2,9 +2,9 @@
 use Rattle.std.proofs.Common.{◌≡◌, ◌≢◌, ◌∙◌, ◌⊎◌, inl, inr, ℕ, ◌+◌, ◌<◌, ◌≤◌, ◌==◌, ℤ, List, [], ◌∷◌, length, refl, sym, ap, subst, arith, Bool, true, false, if◌then◌else◌, IsTrue}
 use Rattle.std.proofs.lemmas.Bool.{cases_lt}
 use Rattle.std.proofs.lemmas.List.{get_or-set_other, get_or_past}
-use Rattle.offer_book.specs.declared.line.Line.{Line}
-use Rattle.proof_tree.specs.declared.interval.Interval.{Interval}
-use Rattle.node_ranges.specs.Ranges.{is_proper, narrowed}
+use Rattle.offer_book.specs.Book.{BookContents}
+use Rattle.proof_tree.specs.declared.tree.Part.TheVariants as part
+use Rattle.node_ranges.specs.Ranges.{RangesContents, is_proper, narrowed}
 use Rattle.node_pool.specs.declared.node.NodeId.{NodeId}
 use Rattle.node_pool.specs.declared.node.State.{State}
 use Rattle.node_pool.specs.declared.node.State.TheVariants as state
@@ -52,21 +52,21 @@ taken-kept : (old : List State) (number : ℕ) (key : ℤ) → state_at old numb
 taken-kept old number key waits own line at left right is = taken-kept-by old number key waits own line at left right is (own == number) refl
 
 -- a way of proper splits to a node, and its ranges
-abbrev pub HasWay : List Line → List State → ℕ → List Interval → Type 0
-HasWay lines states node ranges = (way : List Step) × IsWay states node way × AreProper lines way × (ranges ≡ ranges_at lines way)
+abbrev pub HasWay : BookContents → List State → ℕ → RangesContents → Type 0
+HasWay book states node ranges = (way : List Step) × IsWay states node way × AreProper book way × (ranges ≡ ranges_at book way)
 
 -- one step more
-pub way-down : (lines : List Line) (old mid new : List State) (number line at : ℕ) (l r : ℤ) (right : Bool) (ranges next : List Interval) (child taken : ℕ) → IsInHand old number →
-    HasWay lines old number ranges → mid ≡ after_split old number line at l r → IsLeast mid taken → new ≡ with_state mid taken state.InHand → IsTrue (is_proper ranges line at) →
-    next ≡ narrowed lines ranges line at right → child ≡ (if right then length old + 1 else length old) → HasWay lines new child next
-way-down lines old mid new number line at l r right ranges next child taken hand has mid_is least new_is proper next_is child_is =
+pub way-down : (book : BookContents) (old mid new : List State) (number line at : ℕ) (l r : ℤ) (right : Bool) (ranges next : RangesContents) (child taken : ℕ) → IsInHand old number →
+    HasWay book old number ranges → mid ≡ after_split old number line at l r → IsLeast mid taken → new ≡ with_state mid taken state.InHand → IsTrue (is_proper ranges (part.Line line) at) →
+    next ≡ narrowed book ranges (part.Line line) at right → child ≡ (if right then length old + 1 else length old) → HasWay book new child next
+way-down book old mid new number line at l r right ranges next child taken hand has mid_is least new_is proper next_is child_is =
     let way : List Step = has.0 in
-    let ranges_are : ranges ≡ ranges_at lines way = has.3 in
+    let ranges_are : ranges ≡ ranges_at book way = has.3 in
     let first : KeepsSplits old mid = (let P : List State → Type 0 = λ ss. KeepsSplits old ss in subst P (sym mid_is) (split-kept old number line at l r hand.in_hand)) in
     let second : KeepsSplits mid new = (let P : List State → Type 0 = λ ss. KeepsSplits mid ss in subst P (sym new_is) (taken-kept mid taken least.key least.waits)) in
     let above : IsWay new number way = way-kept mid new number way second (way-kept old mid number way first has.1) in
     let split : state_at mid number ≡ split_of old line at = ap (λ (ss : List State). state_at ss number) mid_is ∙ own_state old number line at l r hand.there in
-    let P : List Interval → Type 0 = λ is. IsTrue (is_proper is line at) in (
+    let P : RangesContents → Type 0 = λ is. IsTrue (is_proper is (part.Line line) at) in (
       record { line = line; at = at; right = right } ∷ way,
       (
         number,
@@ -74,5 +74,5 @@ way-down lines old mid new number line at l r right ranges next child taken hand
         above,
       ),
       (has.2, subst P ranges_are proper),
-      next_is ∙ ap (λ (is : List Interval). narrowed lines is line at right) ranges_are,
+      next_is ∙ ap (λ (is : RangesContents). narrowed book is (part.Line line) at right) ranges_are,
     )

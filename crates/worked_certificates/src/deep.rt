@@ -12,6 +12,7 @@ use figure_sheets::{Unread, up_to};
 use node_pool::{NodeId, Pool};
 use node_ranges::{Ranges, range_laws};
 use offer_book::{Book, Line, LineKind};
+use proof_tree::Part;
 use std::alloc::Global;
 
 // The most splits of a tree.
@@ -39,8 +40,8 @@ fn cash_book(alloc: Global, cents: u64) -> Result<Book, NoMemory>
 
 // The ranges of the root, which are tight.
 fn root_ranges(alloc: Global, book: &Book) -> Result<Ranges, NoMemory>
-    ensures way { IfOk result (λ ranges. ranges ≡ ranges_at book.now.lines []) }
-    ensures tight { IfOk result (λ ranges. AreTight book.now.lines ranges) }
+    ensures way { IfOk result (λ ranges. ranges ≡ ranges_at book.now []) }
+    ensures tight { IfOk result (λ ranges. AreTight book.now ranges) }
 {
     range_laws();
     let _lines = book.line_count();
@@ -57,13 +58,14 @@ fn go_down(
     right: bool,
 ) -> Option<NodeId>
     requires hand { IsInHand pool.old.states node.0 }
-    requires way { (way : List Step) × IsWay pool.old.states node.0 way × AreProper book.now.lines way × (ranges.old ≡ ranges_at book.now.lines way) }
-    requires tight { AreTight book.now.lines ranges.old }
+    requires way { (way : List Step) × IsWay pool.old.states node.0 way × AreProper book.now way × (ranges.old ≡ ranges_at book.now way) }
+    requires tight { AreTight book.now ranges.old }
     ensures hand { IfSome result (λ child. IsInHand pool.new.states child.0) }
-    ensures way { IfSome result (λ child. (way : List Step) × IsWay pool.new.states child.0 way × AreProper book.now.lines way × (ranges.new ≡ ranges_at book.now.lines way)) }
-    ensures tight { IfSome result (λ _. AreTight book.now.lines ranges.new) }
+    ensures way { IfSome result (λ child. (way : List Step) × IsWay pool.new.states child.0 way × AreProper book.now way × (ranges.new ≡ ranges_at book.now way)) }
+    ensures tight { IfSome result (λ _. AreTight book.now ranges.new) }
 {
-    if !ranges.proper(0, at) {
+    let cash = Part::Line(0);
+    if !ranges.proper(cash, at) {
         return None;
     }
     let keys = (i128::from(right), i128::from(!right));
@@ -71,7 +73,7 @@ fn go_down(
         return None;
     };
     let child = if right { made.1 } else { made.0 };
-    ranges.narrow(book, 0, at, right);
+    ranges.narrow(book, cash, at, right);
     let next = pool.pop_least()?;
     if next == child { Some(next) } else { None }
 }
@@ -94,6 +96,7 @@ fn deepest(
     splits: u64,
 ) -> Result<Option<Ranges>, NoMemory> {
     let mut pool = Pool::make(alloc, 9_999, 0)?;
+    let root = root_ranges(alloc, book)?;
     let mut ranges = root_ranges(alloc, book)?;
     let mut found = root_ranges(alloc, book)?;
     let mut node = pool.pop_least();
@@ -107,7 +110,7 @@ fn deepest(
     let Some(node) = node else {
         return Ok(None);
     };
-    pool.box_of(node, book, &mut found);
+    pool.box_of(node, book, &root, &mut found);
     Ok(Some(found))
 }
 

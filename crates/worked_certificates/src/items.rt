@@ -5,7 +5,7 @@ use crate::texts::fault_text;
 use bound_certificate::{CertFault, CertReader, Item, MOST_DATES};
 use figure_cases::leaf_text;
 use figure_sheets::{Unread, bytes_of};
-use proof_tree::Leaf;
+use proof_tree::{Leaf, Part};
 use std::alloc::{AllocError, Global};
 
 // What a line says.
@@ -20,7 +20,14 @@ fn item_text(alloc: Global, item: Item, leaf: &Leaf) -> Result<String, AllocErro
         Item::Vectors(count) => format!(in alloc; "vectors {count}"),
         Item::Vector => String::from_str(alloc, "vector"),
         Item::Nodes(count) => format!(in alloc; "nodes {count}"),
-        Item::Split { line, at } => format!(in alloc; "split {line} {at}"),
+        Item::Split {
+            part: Part::Line(line),
+            at,
+        } => format!(in alloc; "split {line} {at}"),
+        Item::Split {
+            part: Part::Sum(sum),
+            at,
+        } => format!(in alloc; "split sum {sum} {at}"),
         Item::Point => String::from_str(alloc, "point"),
         Item::Leaf => {
             let leaf = leaf_text(alloc, leaf)?;

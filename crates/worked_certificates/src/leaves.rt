@@ -3,7 +3,7 @@
 use crate::arguments::numbers_of;
 use figure_cases::leaf_text;
 use figure_sheets::{Unread, number_of};
-use proof_tree::{Leaf, PRICE_SCALE, Prices};
+use proof_tree::{Leaf, PRICE_SCALE, Prices, Weights};
 use std::alloc::Global;
 
 /// A leaf of zeros for so many need dates.
@@ -30,6 +30,7 @@ pub(crate) fn put(
         rho: PRICE_SCALE,
         mu: 0,
         prices,
+        weights: Weights::none(alloc),
     };
     Ok(leaf_text(alloc, &leaf)?)
 }

@@ -130,7 +130,7 @@ fn packed_again(alloc: Global, text: &[u8], dates: u16) -> Result<Vec<u8>, CertE
 {
     packed_text_laws();
     let packed = read_packed(alloc, text, dates)?;
-    let again = pack(alloc, &unpack(alloc, &packed)?)?;
+    let again = pack(alloc, &unpack(alloc, &packed, dates)?)?;
     Ok(write_packed(alloc, &again)?)
 }
 

@@ -50,7 +50,7 @@ fn dive(
     ranges: &Ranges,
     basis: Option<&Basis>,
 ) -> Result<Option<Proposal>, NoMemory>
-    requires { AreTight finder.old.book.lines ranges.now }
+    requires { AreTight finder.old.book ranges.now }
     ensures { finder.new ≡ finder.old }
 {
     finder.dive(ranges, basis)

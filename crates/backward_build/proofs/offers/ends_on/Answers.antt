@@ -1,5 +1,5 @@
 use Rattle.std.proofs.Common.{subst}
-use Rattle.backward_build.proofs.OfferFacts.{MaturesBy2190, line-by}
+use Rattle.offer_book.proofs.SumFacts.{MaturesBy2190, line-by}
 use Rattle.backward_build.proofs.offers.ends_on.Goals as goal
 
 pub open_day-requires : goal.open_day-requires

@@ -1,4 +1,6 @@
 use Rattle.std.proofs.Common.{◌≡◌, ◌∙◌, ◌∷◌, List, Ok, Err, Result, ap, arith, inl, inr, subst, sym, ℕ}
+use Rattle.proof_tree.specs.declared.tree.Leaf.{Leaf}
+use Rattle.bound_certificate.specs.Draft.{with_item}
 use Rattle.bound_certificate.specs.declared.certificate.Certificate.{Certificate}
 use Rattle.bound_certificate.specs.declared.fault.CertError.{CertError}
 use Rattle.bound_certificate.specs.declared.fault.CertError.TheVariants as error
@@ -50,7 +52,7 @@ returns-in-Err-clause-back c = λ it is.
 pub after-due-requires-clause-item : goal.after-due-requires-clause-item
 after-due-requires-clause-item c =
     let i = c.loop-part.invariant in
-    let given : IsGiven (line_said version.One c.args.dates c.loop-part.vectors c.loop-part.due c.loop-part.part.front.now) c.loop-part.vectors c.take_line.new.vectors c.take_line.new.leaf c.in-Ok.item =
+    let given : IsGiven c.args.dates (line_said version.One c.args.dates c.loop-part.vectors c.loop-part.due c.loop-part.part.front.now) c.loop-part.vectors c.take_line.new.vectors c.take_line.new.leaf c.in-Ok.item =
     c.in-Ok.ensures.ok in
     line-is-said version.One c.args.dates c.loop-part.due i.written.vectors c.loop-part.part.front.now given.said c.in-Ok.item
     (are-vectors c.args.dates c.loop-part.due i.written.vectors i.at.holds) (ap (λ (vs : List (List ℕ)). line_said version.One c.args.dates vs c.loop-part.due c.loop-part.part.front.now) (sym i.vectors) ∙ given.is) given.item_is
@@ -59,7 +61,7 @@ pub loop-part-preserved : goal.loop-part-preserved
 loop-part-preserved c =
     let i = c.loop-part.invariant in
     let told : Result Line FaultKind = line_said version.One c.args.dates c.loop-part.vectors c.loop-part.due c.loop-part.part.front.now in
-    let given : IsGiven told c.loop-part.vectors c.take_line.new.vectors c.take_line.new.leaf c.in-Ok.item = c.in-Ok.ensures.ok in
+    let given : IsGiven c.args.dates told c.loop-part.vectors c.take_line.new.vectors c.take_line.new.leaf c.in-Ok.item = c.in-Ok.ensures.ok in
     let said_is : line_said version.One c.args.dates i.written.vectors c.loop-part.due c.loop-part.part.front.now ≡ Ok given.said = (ap (λ (vs : List (List ℕ)). line_said version.One c.args.dates vs c.loop-part.due c.loop-part.part.front.now) (sym i.vectors) ∙ given.is) in
     let found : IsFound version.One c.args.dates i.written.vectors c.loop-part.due c.loop-part.part.front.now given.said =
     fits-at version.One c.args.dates c.loop-part.number c.loop-part.due i.written c.args.bytes.now c.loop-part.part.front.now (parts_behind 10 c.loop-part.part.rest) given.said i.at said_is in
@@ -70,8 +72,9 @@ loop-part-preserved c =
           (lines-behind c.loop-part.part.rest c.in-Some.rest c.in-Some.is ∙ c.cut_line-part-in-Some.ensures) (omega arith)
           (c.after-due.ensures.value ∙ ap (λ (told : Item). next_due version.One c.loop-part.due told) given.item_is) c.after-due.ensures.kept c.after-due.ensures.lines;
       vectors = given.vectors_are ∙ ap (λ (vs : List (List ℕ)). vectors_with vs given.said) i.vectors ∙ with-vectors i.written given.said;
-      came = c.in_ok-take.ensures ∙ cert-more version.One c.args.dates c.loop-part.due i.written given.said c.loop-part.cert c.in-Ok.item c.take_line.new.leaf found.fits i.at.none i.came given.item_is
-          (λ leafy. given.leaf_is leafy ∙ ap (λ (vs : List (List ℕ)). line_leaf vs given.said) i.vectors);
+      came = c.in_ok-take.ensures ∙ ap (λ (l : Leaf). with_item c.loop-part.cert c.in-Ok.item l) c.as_leaf.ensures
+          ∙ cert-more version.One c.args.dates c.loop-part.due i.written given.said c.loop-part.cert c.in-Ok.item c.take_line.new.leaf found.fits i.at.none i.came given.item_is
+          (λ leafy. given.leaf_is leafy ∙ ap (λ (vs : List (List ℕ)). line_leaf c.args.dates vs given.said) i.vectors);
       leaf = c.take_line.ensures.dates;
     }
 

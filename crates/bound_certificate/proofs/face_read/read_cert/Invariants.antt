@@ -11,7 +11,7 @@ invariant-loop-part l = record {
   written : Written;
   at : AtLine version.One l.dates l.number l.due written l.bytes (l.part.front.now ∷ parts_behind 10 l.part.rest);
   vectors : l.vectors ≡ written.vectors;
-  came : l.cert ≡ cert_of written;
+  came : l.cert ≡ cert_of l.dates written;
   leaf : length l.leaf.prices ≡ l.dates;
 }
 

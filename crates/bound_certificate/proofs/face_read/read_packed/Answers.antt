@@ -1,4 +1,5 @@
 use Rattle.std.proofs.Common.{◌≡◌, ◌∙◌, ◌∷◌, ◌≤◌, List, Some, Ok, Err, Result, ap, arith, inl, inr, refl, subst, sym, ℕ}
+use Rattle.proof_tree.specs.declared.tree.Leaf.{Leaf}
 use Rattle.bound_certificate.specs.declared.fault.CertError.{CertError}
 use Rattle.bound_certificate.specs.declared.fault.CertError.TheVariants as error
 use Rattle.bound_certificate.specs.declared.fault.CertFault.{CertFault}
@@ -72,7 +73,7 @@ line_of-requires c = λ leaf.
 pub after-due-requires-clause-item : goal.after-due-requires-clause-item
 after-due-requires-clause-item c =
     let i = c.loop-part.invariant in
-    let given : IsGiven (line_said (version.Packed c.weighing_of_title-weighing.result) c.args.dates c.loop-part.vectors c.loop-part.due c.loop-part.part.front.now) c.loop-part.vectors c.take_line.new.vectors c.take_line.new.leaf c.in-Ok.item =
+    let given : IsGiven c.args.dates (line_said (version.Packed c.weighing_of_title-weighing.result) c.args.dates c.loop-part.vectors c.loop-part.due c.loop-part.part.front.now) c.loop-part.vectors c.take_line.new.vectors c.take_line.new.leaf c.in-Ok.item =
     c.in-Ok.ensures.ok in
     line-is-said (version.Packed c.weighing_of_title-weighing.result) c.args.dates c.loop-part.due i.written.vectors c.loop-part.part.front.now given.said c.in-Ok.item
     (are-vectors c.args.dates c.loop-part.due i.written.vectors i.at.holds) (ap (λ (vs : List (List ℕ)). line_said (version.Packed c.weighing_of_title-weighing.result) c.args.dates vs c.loop-part.due c.loop-part.part.front.now) (sym i.vectors) ∙ given.is) given.item_is
@@ -81,13 +82,15 @@ pub loop-part-preserved : goal.loop-part-preserved
 loop-part-preserved c =
     let i = c.loop-part.invariant in
     let told : Result Line FaultKind = line_said (version.Packed c.weighing_of_title-weighing.result) c.args.dates c.loop-part.vectors c.loop-part.due c.loop-part.part.front.now in
-    let given : IsGiven told c.loop-part.vectors c.take_line.new.vectors c.take_line.new.leaf c.in-Ok.item = c.in-Ok.ensures.ok in
+    let given : IsGiven c.args.dates told c.loop-part.vectors c.take_line.new.vectors c.take_line.new.leaf c.in-Ok.item = c.in-Ok.ensures.ok in
     let said_is : line_said (version.Packed c.weighing_of_title-weighing.result) c.args.dates i.written.vectors c.loop-part.due c.loop-part.part.front.now ≡ Ok given.said = (ap (λ (vs : List (List ℕ)). line_said (version.Packed c.weighing_of_title-weighing.result) c.args.dates vs c.loop-part.due c.loop-part.part.front.now) (sym i.vectors) ∙ given.is) in
     let found : IsFound (version.Packed c.weighing_of_title-weighing.result) c.args.dates i.written.vectors c.loop-part.due c.loop-part.part.front.now given.said =
     fits-at (version.Packed c.weighing_of_title-weighing.result) c.args.dates c.loop-part.number c.loop-part.due i.written c.args.bytes.now c.loop-part.part.front.now (parts_behind 10 c.loop-part.part.rest) given.said i.at said_is in
-    let of_numbers : IsOfNumbers c.weighing_of_title-weighing.result told c.take_line.new.numbers.items c.in-Ok.item = c.in-Ok.ensures.numbers c.weighing_of_title-weighing.result refl in
+    let of_numbers : IsOfNumbers c.weighing_of_title-weighing.result told c.take_line.new.numbers.items c.take_line.new.leaf.weights c.in-Ok.item = c.in-Ok.ensures.numbers c.weighing_of_title-weighing.result refl in
     let line_is : c.in_ok-line_of.field-0 ≡ given.said =
-    c.in_ok-line_of.ensures ∙ ap (λ (ns : List ℕ). line_with c.weighing_of_title-weighing.result c.in-Ok.item ns) c.as_slice.ensures.value ∙ sym (same_said told given.said (line_with c.weighing_of_title-weighing.result c.in-Ok.item c.take_line.new.numbers.items) given.is of_numbers.is) in
+    c.in_ok-line_of.ensures ∙ ap (λ (ns : List ℕ). line_with c.weighing_of_title-weighing.result c.in-Ok.item ns c.as_leaf.result.now.weights) c.as_slice.ensures.value
+    ∙ ap (λ (l : Leaf). line_with c.weighing_of_title-weighing.result c.in-Ok.item c.take_line.new.numbers.items l.weights) c.as_leaf.ensures
+    ∙ sym (same_said told given.said (line_with c.weighing_of_title-weighing.result c.in-Ok.item c.take_line.new.numbers.items c.take_line.new.leaf.weights) given.is of_numbers.is) in
     record {
       written = and_line i.written given.said;
       at = at-more (version.Packed c.weighing_of_title-weighing.result) c.args.dates c.loop-part.number c.loop-part.due i.written c.args.bytes.now c.loop-part.part.front.now (parts_behind 10 c.loop-part.part.rest)

@@ -11,5 +11,5 @@ pub returns-in-First : goal.returns-in-First
 returns-in-First c = λ vectors line long.
     let P : Stage → Type 0 = λ s. Stops c.args.dates s vectors line c.long_fault.result in
     subst P (sym c.in-First.is)
-    (first-stops version.One c.args.dates vectors line c.long_fault.result (long-version c.args.head.now line c.args.spaces long)
+    (first-stops version.One c.args.dates vectors line c.long_fault.result (long-version c.args.head.now line c.args.seen long)
     (line-stops version.One c.args.dates due.Title vectors line c.long_fault.result (c.long_fault.ensures vectors line long)))

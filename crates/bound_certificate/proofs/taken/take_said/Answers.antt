@@ -19,19 +19,19 @@ take_vector-requires-clause-prices c =
 
 pub returns-in-Buy-clause-err : goal.returns-in-Buy-clause-err
 returns-in-Buy-clause-err c =
-    IfErr-weaker c.take_purchase.result (λ found. (vs : List (List ℕ)) → said_by vs (row.Buy c.in-Buy.least) c.args.numbers.now ≡ Err found)
-    (λ found. said_by c.args.vectors.now c.args.row c.args.numbers.now ≡ Err found)
-    (λ found all. ap (λ (r : Row). said_by c.args.vectors.now r c.args.numbers.now) c.in-Buy.is ∙ all c.args.vectors.now) c.take_purchase.ensures.err
+    IfErr-weaker c.take_purchase.result (λ found. (dates : ℕ) (vs : List (List ℕ)) → said_by dates vs (row.Buy c.in-Buy.least) c.args.numbers.now ≡ Err found)
+    (λ found. said_by c.args.dates c.args.vectors.now c.args.row c.args.numbers.now ≡ Err found)
+    (λ found all. ap (λ (r : Row). said_by c.args.dates c.args.vectors.now r c.args.numbers.now) c.in-Buy.is ∙ all c.args.dates c.args.vectors.now) c.take_purchase.ensures.err
 
 pub returns-in-Buy-clause-numbers : goal.returns-in-Buy-clause-numbers
 returns-in-Buy-clause-numbers c = λ w of_row.
-    (let P : Row → Type 0 = λ r. IfOk c.take_purchase.result (IsOfNumbers w (said_by c.args.vectors.now r c.args.numbers.now) c.args.numbers.now) in
-    subst P (sym c.in-Buy.is) (c.take_purchase.ensures.numbers w c.args.vectors.now))
+    (let P : Row → Type 0 = λ r. IfOk c.take_purchase.result (IsOfNumbers w (said_by c.args.dates c.args.vectors.now r c.args.numbers.now) c.args.numbers.now c.args.leaf.now.weights) in
+    subst P (sym c.in-Buy.is) (c.take_purchase.ensures.numbers w c.args.dates c.args.vectors.now c.args.leaf.now.weights))
 
 pub returns-in-Vector-clause-numbers : goal.returns-in-Vector-clause-numbers
 returns-in-Vector-clause-numbers c = λ w of_row.
-    (let P : Row → Type 0 = λ r. IfOk c.take_vector.result (IsOfNumbers w (said_by c.args.vectors.now r c.args.numbers.now) c.args.numbers.now) in
-    subst P (sym c.in-Vector.is) (c.take_vector.ensures.numbers w))
+    (let P : Row → Type 0 = λ r. IfOk c.take_vector.result (IsOfNumbers w (said_by c.args.dates c.args.vectors.now r c.args.numbers.now) c.args.numbers.now c.args.leaf.now.weights) in
+    subst P (sym c.in-Vector.is) (c.take_vector.ensures.numbers w c.args.dates c.args.leaf.now.weights))
 
 pub take_priced-requires : goal.take_priced-requires
 take_priced-requires c =
@@ -41,6 +41,12 @@ take_priced-requires c =
 
 pub returns-in-Priced-clause-err : goal.returns-in-Priced-clause-err
 returns-in-Priced-clause-err c =
-    IfErr-weaker c.take_priced.result (λ found. (vs : List (List ℕ)) → said_by vs row.Priced c.args.numbers.now ≡ Err found)
-    (λ found. said_by c.args.vectors.now c.args.row c.args.numbers.now ≡ Err found)
-    (λ found all. ap (λ (r : Row). said_by c.args.vectors.now r c.args.numbers.now) c.in-Priced.is ∙ all c.args.vectors.now) c.take_priced.ensures.err
+    IfErr-weaker c.take_priced.result (λ found. (dates : ℕ) (vs : List (List ℕ)) → said_by dates vs row.Priced c.args.numbers.now ≡ Err found)
+    (λ found. said_by c.args.dates c.args.vectors.now c.args.row c.args.numbers.now ≡ Err found)
+    (λ found all. ap (λ (r : Row). said_by c.args.dates c.args.vectors.now r c.args.numbers.now) c.in-Priced.is ∙ all c.args.dates c.args.vectors.now) c.take_priced.ensures.err
+
+pub returns-in-Vector-clause-err : goal.returns-in-Vector-clause-err
+returns-in-Vector-clause-err c =
+    IfErr-weaker c.take_vector.result (λ found. (dates : ℕ) → said_by dates c.args.vectors.now row.Vector c.args.numbers.now ≡ Err found)
+    (λ found. said_by c.args.dates c.args.vectors.now c.args.row c.args.numbers.now ≡ Err found)
+    (λ found all. ap (λ (r : Row). said_by c.args.dates c.args.vectors.now r c.args.numbers.now) c.in-Vector.is ∙ all c.args.dates) c.take_vector.ensures.err

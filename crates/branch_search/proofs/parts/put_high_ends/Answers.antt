@@ -9,15 +9,15 @@ use Rattle.branch_search.proofs.EndPlans.{high_of, highs-permitted}
 use Rattle.branch_search.proofs.parts.put_high_ends.Goals as goal
 
 pub high-requires : goal.high-requires
-high-requires c = omega (arith, c.loop-line-test.true, c.line_count-line-end.ensures.value, tight-length c.args.book.now.lines c.args.ranges.now c.requires.tight)
+high-requires c = omega (arith, c.loop-line-test.true, c.line_count-line-end.ensures.value, tight-length c.args.book.now.lines c.args.ranges.now.lines c.requires.tight.lines)
 
 pub loop-line-preserved : goal.loop-line-preserved
 loop-line-preserved c =
     let none : Interval = record { low = 0; high = 0 } in
     let plan = c.loop-line.plan in
     let line = c.loop-line.line in
-    let ranges = c.args.ranges.now in
-    let same = tight-length c.args.book.now.lines ranges c.requires.tight in
+    let ranges = c.args.ranges.now.lines in
+    let same = tight-length c.args.book.now.lines ranges c.requires.tight.lines in
     let within : line < length ranges = omega (arith, c.loop-line-test.true, c.line_count-line-end.ensures.value, same) in
     let own : Interval = get_or ranges line none in (
       ap length c.put.ensures ∙ length-set plan line c.high.result ∙ c.loop-line.invariant.0,
@@ -27,8 +27,8 @@ loop-line-preserved c =
 
 pub returns : goal.returns
 returns c =
-    let ranges = c.args.ranges.now in
-    let same = tight-length c.args.book.now.lines ranges c.requires.tight in
+    let ranges = c.args.ranges.now.lines in
+    let same = tight-length c.args.book.now.lines ranges c.requires.tight.lines in
     let «end» : length ranges ≡ c.loop-line.line = omega (arith, c.loop-line-test.false, c.loop-line.auto.line-end, c.line_count-line-end.ensures.value, same) in
     let value : c.loop-line.plan ≡ map high_of ranges = filled-all high_of c.loop-line.plan ranges c.loop-line.line (omega (arith, c.loop-line.invariant.0, same, «end»)) «end» c.loop-line.invariant.1 in
-    record { value = value; permitted = subst (IsPermitted c.args.book.now) (sym value) (highs-permitted c.args.book.now ranges c.requires.tight) }
+    record { value = value; permitted = subst (IsPermitted c.args.book.now) (sym value) (highs-permitted c.args.book.now ranges c.requires.tight.lines) }

@@ -3,4 +3,4 @@ use Rattle.branch_search.proofs.EndPlans.{low_of}
 use Rattle.branch_search.proofs.parts.put_low_ends.Given as goal
 
 abbrev pub invariant-loop-line : goal.invariant-loop-line
-invariant-loop-line l = (length l.plan ≡ length l.book.lines) × (take l.line l.plan ≡ take l.line (map low_of l.ranges))
+invariant-loop-line l = (length l.plan ≡ length l.book.lines) × (take l.line l.plan ≡ take l.line (map low_of l.ranges.lines))

@@ -3,6 +3,6 @@ use Rattle.certificate_packing.proofs.packing.pack.Given as goal
 
 abbrev pub invariant-loop-node : goal.invariant-loop-node
 invariant-loop-node l = record {
-  vectors : AreVectorsFor l.cert l.vectors-inside.vectors.items;
-  nodes : ArePacked l.cert l.vectors-inside.vectors.items l.node-index l.nodes.items;
+  vectors : AreVectorsFor l.stairs l.cert l.vectors-inside.vectors.items;
+  nodes : ArePacked l.stairs l.cert l.vectors-inside.vectors.items l.node-index l.nodes.items;
 }

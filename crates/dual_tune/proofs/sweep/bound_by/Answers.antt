@@ -8,7 +8,7 @@ use Rattle.offer_book.specs.declared.line.Line.{Line}
 use Rattle.cash_table.proofs.PaymentFacts.{count_lines}
 use Rattle.dual_bound.specs.LeafBound.{least_within, priced_needs}
 use Rattle.proof_tree.specs.declared.interval.Interval.{Interval}
-use Rattle.dual_bound.proofs.BoundSizes.{bound-all, bound-more, bound-small, room-length}
+use Rattle.dual_bound.proofs.BoundSizes.{bound-more, bound-plain_all, bound-small, room-length}
 use Rattle.dual_bound.proofs.Signed.{read-again}
 use Rattle.dual_bound.proofs.TableauFacts.{some-line}
 use Rattle.dual_bound.specs.declared.form.Form.{Form}
@@ -42,7 +42,7 @@ loop-line-preserved c =
     let book = given.book.now in
     let leaf = c.args.leaf.now in
     let none : Interval = record { low = 0; high = 0 } in
-    let ranges = given.ranges.now in
+    let ranges = given.ranges.now.lines in
     let lines = book.lines in
     let place = c.loop-line.line in
     let interval = get_or ranges place none in
@@ -62,11 +62,11 @@ loop-line-preserved c =
 
 pub returns-clause-value : goal.returns-clause-value
 returns-clause-value c =
-    bound-all c.args.given.now.yield_units.0 c.args.given.now.book.now c.args.given.now.ranges.now c.args.leaf.now c.loop-line.line (to_z w128 c.loop-line.bound-bits)
+    bound-plain_all c.args.given.now.yield_units.0 c.args.given.now.book.now c.args.given.now.ranges.now c.args.leaf.now c.loop-line.line (to_z w128 c.loop-line.bound-bits) c.requires.unweighted
     (omega (arith, c.line_count-line-end.ensures.value, c.loop-line-test.false)) c.loop-line.invariant.0
 
 pub returns-clause-size : goal.returns-clause-size
 returns-clause-size c =
     let given = c.args.given.now in
     subst (λ z. unsigned_abs z < 10 ^ 37) (sym (returns-clause-value c))
-    (bound-small given.yield_units.0 given.book.now given.ranges.now c.args.leaf.now c.line_count-line-end.ensures.limits c.requires.leaf given.room given.ordered)
+    (bound-small given.yield_units.0 given.book.now given.ranges.now c.args.leaf.now c.line_count-line-end.ensures.limits c.requires.leaf (record { lines = given.room; sums = given.sums }) given.ordered given.sums_ordered)

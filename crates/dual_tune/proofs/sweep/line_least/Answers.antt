@@ -7,7 +7,7 @@ use Rattle.offer_book.specs.declared.line.Line.{Line}
 use Rattle.dual_bound.specs.LeafBound.{form_of, least_within}
 use Rattle.dual_bound.specs.declared.form.Form.{Form}
 use Rattle.proof_tree.specs.declared.interval.Interval.{Interval}
-use Rattle.dual_bound.proofs.BoundSizes.{form-times, least-room, least-small, room-at, room-length}
+use Rattle.dual_bound.proofs.BoundSizes.{least-room, of-times, room-at, room-length, within-small}
 use Rattle.dual_bound.proofs.Soundness.{all-lines}
 use Rattle.dual_bound.proofs.TableauFacts.{some-line}
 use Rattle.dual_tune.specs.Sweep.{IsPoint}
@@ -19,13 +19,13 @@ none : Interval
 none = record { low = 0; high = 0 }
 
 -- the line has an interval
-there : (c : After-intervals) → c.args.line < length c.args.given.now.ranges.now
-there c = omega (arith, c.requires.line, room-length c.args.given.now.book.now.lines c.args.given.now.ranges.now c.args.given.now.room)
+there : (c : After-intervals) → c.args.line < length c.args.given.now.ranges.now.lines
+there c = omega (arith, c.requires.line, room-length c.args.given.now.book.now.lines c.args.given.now.ranges.now.lines c.args.given.now.room)
 
 -- it is the one that is read, in order and within what the line may buy
-interval-is : (c : After-intervals) (e : Interval) → get_or c.intervals.result.now c.from-at.result none ≡ get_or c.args.given.now.ranges.now c.args.line e
+interval-is : (c : After-intervals) (e : Interval) → get_or c.intervals.result.now c.from-at.result none ≡ get_or c.args.given.now.ranges.now.lines c.args.line e
 unfolding none
-interval-is c e = (λ i. get_or (c.intervals.ensures.value i) (c.from-at.ensures i) none) ∙ get_or_default c.args.given.now.ranges.now c.args.line none e (there c)
+interval-is c e = (λ i. get_or (c.intervals.ensures.value i) (c.from-at.ensures i) none) ∙ get_or_default c.args.given.now.ranges.now.lines c.args.line none e (there c)
 
 ordered : (c : After-intervals) → (get_or c.intervals.result.now c.from-at.result none).low ≤ (get_or c.intervals.result.now c.from-at.result none).high
 ordered c = subst (λ (z : Interval). z.low ≤ z.high) (sym (interval-is c none)) (c.args.given.now.ordered c.args.line none (there c))
@@ -33,7 +33,7 @@ ordered c = subst (λ (z : Interval). z.low ≤ z.high) (sym (interval-is c none
 room : (c : After-intervals) (d : Line) → (get_or c.intervals.result.now c.from-at.result none).high ≤ (get_or c.args.given.now.book.now.lines c.args.line d).most
 room c d =
     subst (λ (z : Interval). z.high ≤ (get_or c.args.given.now.book.now.lines c.args.line d).most) (sym (interval-is c none))
-    (room-at c.args.given.now.book.now.lines c.args.given.now.ranges.now c.args.line d none c.args.given.now.room c.requires.line)
+    (room-at c.args.given.now.book.now.lines c.args.given.now.ranges.now.lines c.args.line d none c.args.given.now.room c.requires.line)
 
 -- the line that is read
 line-is : (c : After-index-lines-at) → c.index-lines-at.result ≡ get_or c.args.given.now.book.now.lines c.args.line c.index-lines-at.result
@@ -94,7 +94,7 @@ least_within-requires-clause-least c =
     omega (
       arith,
       ap (λ (f : Form). unsigned_abs f.slope * line.least) form,
-      form-times n book c.requires.form.0 line line.least limits.settlement c.requires.form.1.well_formed is (least-room book.days line interval is (ordered start) most c.if-interval.false),
+      of-times n book c.requires.form.0 line line.least limits.settlement c.requires.form.1.well_formed is (least-room book.days line interval is (ordered start) most c.if-interval.false),
     )
 
 pub least_within-requires-clause-slack : goal.least_within-requires-clause-slack
@@ -110,7 +110,7 @@ returns-clause-value c =
     let line = c.index-lines-at.result in
     let own = line-is (goal.at.returns-clause-value c).After-index-lines-at in
     let form = is.value line ∙ ap (form_of n book leaf) (sym own) in
-    to_z-of_z w128 c.least_within.result (record { sfits = c.least_within.type_inv }) ∙ c.least_within.ensures n book leaf form
+    to_z-of_z w128 c.least_within.result (record { sfits = c.least_within.type_inv }) ∙ c.least_within.ensures.of_line n book leaf form
     ∙ (λ i. least_within n book leaf ((own ∙ get_or_default book.lines c.args.line line d c.requires.line) i) (interval-is (goal.at.returns-clause-value c).After-intervals e i))
 
 pub returns-clause-size : goal.returns-clause-size
@@ -119,9 +119,9 @@ returns-clause-size c =
     let n = c.args.given.now.yield_units.0 in
     let book = c.args.given.now.book.now in
     let limits = c.lines-lines.ensures.limits in
-    let interval = get_or c.args.given.now.ranges.now c.args.line none in
+    let interval = get_or c.args.given.now.ranges.now.lines c.args.line none in
     let value = returns-clause-value c some-line none c.requires.form.0 c.requires.form.1 in
     subst (λ z. unsigned_abs z ≤ 71 * 10 ^ 33) (sym value)
-    (least-small n book c.requires.form.0 (get_or book.lines c.args.line some-line) interval limits.settlement c.requires.form.1.well_formed
+    (within-small n book c.requires.form.0 (get_or book.lines c.args.line some-line) interval limits.settlement c.requires.form.1.well_formed
     (all-lines book.days book.lines limits.lines c.args.line some-line c.requires.line) (c.args.given.now.ordered c.args.line none (there start))
-    (room-at book.lines c.args.given.now.ranges.now c.args.line some-line none c.args.given.now.room c.requires.line))
+    (room-at book.lines c.args.given.now.ranges.now.lines c.args.line some-line none c.args.given.now.room c.requires.line))

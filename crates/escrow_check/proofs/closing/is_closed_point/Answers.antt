@@ -5,7 +5,7 @@ use Rattle.escrow_check.proofs.CloseFacts.{lows-permitted}
 use Rattle.escrow_check.proofs.closing.is_closed_point.Goals as goal
 
 pub put_low_ends-requires-clause-ranges : goal.put_low_ends-requires-clause-ranges
-put_low_ends-requires-clause-ranges c = sym (tight-length c.args.case.now.book.lines c.args.ranges.now c.requires.ranges)
+put_low_ends-requires-clause-ranges c = sym (tight-length c.args.case.now.book.lines c.args.ranges.now.lines c.requires.ranges.lines)
 
 pub point_excluded-requires-clause-permitted : goal.point_excluded-requires-clause-permitted
 point_excluded-requires-clause-permitted c =

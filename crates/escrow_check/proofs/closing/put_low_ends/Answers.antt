@@ -4,8 +4,7 @@ use Rattle.escrow_check.proofs.closing.put_low_ends.Goals as goal
 
 pub returns : goal.returns
 returns c =
-    let ranges = c.args.ranges.now in
-    lows-all ranges c.loop-line.plan (record {
+    lows-all c.args.ranges.now.lines c.loop-line.plan (record {
       same = c.loop-line.invariant.same;
       lows = λ k d few. c.loop-line.invariant.lows k d (omega (arith, few, c.requires.ranges, c.line_count-line-end.ensures.value, c.loop-line-test.false));
     })

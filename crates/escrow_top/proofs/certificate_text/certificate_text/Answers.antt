@@ -21,6 +21,6 @@ returns c =
     (λ text is dates packable. record {
       packed = c.in_ok-packed.packed;
       text = written_text dates c.in_ok-packed.packed _ (c.in_ok-packed.ensures.well_formed dates packable) is;
-      same = c.in_ok-packed.ensures.same;
+      same = c.in_ok-packed.ensures.same dates packable;
     })
     c.write_packed.ensures

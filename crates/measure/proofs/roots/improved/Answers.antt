@@ -1,8 +1,8 @@
-use Rattle.node_ranges.proofs.RangeFacts.{root-room}
+use Rattle.node_ranges.proofs.RangeFacts.{root-of}
 use Rattle.measure.proofs.roots.improved.Goals as goal
 
 pub improve-requires-clause-ranges : goal.improve-requires-clause-ranges
-improve-requires-clause-ranges c = rw c.in_ok-ranges.ensures (root-room c.args.book.now.lines)
+improve-requires-clause-ranges c = rw c.in_ok-ranges.ensures (root-of c.args.book.now)
 
 pub bound-requires-clause-ranges : goal.bound-requires-clause-ranges
-bound-requires-clause-ranges c = rw c.in_ok-ranges.ensures (root-room c.args.book.now.lines)
+bound-requires-clause-ranges c = rw c.in_ok-ranges.ensures (root-of c.args.book.now)

@@ -7,8 +7,8 @@ use Rattle.node_pool.proofs.way.narrow_up.Given as goal
 
 abbrev pub invariant-loop-child : goal.invariant-loop-child
 invariant-loop-child l = record {
-  left : (way : List Step) → IsWay (states_of l.nodes) l.fn.node.0 way → AreProper l.book.lines way → Left l.book.lines (states_of l.nodes) l.child.0 l.into (ranges_at l.book.lines way);
-  tight : AreTight l.book.lines l.into;
+  left : (way : List Step) → IsWay (states_of l.nodes) l.fn.node.0 way → AreProper l.book way → Left l.book (states_of l.nodes) l.child.0 l.into (ranges_at l.book way);
+  tight : AreTight l.book l.into;
 }
 
 abbrev pub decreases-loop-child : goal.decreases-loop-child

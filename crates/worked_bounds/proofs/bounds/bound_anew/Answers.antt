@@ -1,18 +1,16 @@
-use Rattle.std.proofs.Common.{◌≡◌, ◌∙◌, List, sym, subst, ap}
-use Rattle.std.specs.List.{AllZip}
+use Rattle.std.proofs.Common.{◌≡◌, ◌∙◌, sym, subst, ap}
 use Rattle.offer_book.specs.Book.{BookContents}
 use Rattle.dual_bound.specs.Columns.{ColumnsContents}
-use Rattle.node_ranges.specs.Ranges.{AreTight, HasRoomFor}
-use Rattle.proof_tree.specs.declared.interval.Interval.{Interval}
-use Rattle.node_ranges.proofs.RangeFacts.{tight-room}
+use Rattle.node_ranges.specs.Ranges.{AreOf, AreTight, RangesContents}
+use Rattle.node_ranges.proofs.RangeFacts.{tight-of}
 use Rattle.worked_bounds.proofs.bounds.bound_anew.Goals as goal
 
 pub bound-anew-requires-clause-ranges : goal.bound-anew-requires-clause-ranges
-bound-anew-requires-clause-ranges c = tight-room c.args.book.now.lines c.args.ranges.now c.requires.tight
+bound-anew-requires-clause-ranges c = tight-of c.args.book.now c.args.ranges.now c.requires.tight
 
 -- the ranges have room for the lines of columns of the same book
-room-again : (book own : BookContents) (ranges : List Interval) → own ≡ book → AreTight book.lines ranges → AllZip HasRoomFor own.lines ranges
-room-again book own ranges same tight = subst (λ (b : BookContents). AllZip HasRoomFor b.lines ranges) (sym same) (tight-room book.lines ranges tight)
+room-again : (book own : BookContents) (ranges : RangesContents) → own ≡ book → AreTight book ranges → AreOf own ranges
+room-again book own ranges same tight = subst (λ (b : BookContents). AreOf b ranges) (sym same) (tight-of book ranges tight)
 
 pub bound_near-first-requires-clause-ranges : goal.bound_near-first-requires-clause-ranges
 bound_near-first-requires-clause-ranges c = room-again c.args.book.now _ c.args.ranges.now c.requires.own c.requires.tight

@@ -15,6 +15,6 @@ returns-then-eq-clause-way c =
       | then-right w ↦ rw (w.if-right.true) (ap (λ (n : NodeId). n.0) w.child-is ∙ c.in-Ok.ensures.children.1)
       | else-right w ↦ rw (w.if-right.false) (ap (λ (n : NodeId). n.0) w.child-is ∙ c.in-Ok.ensures.children.0)
     ] in
-    way-down c.args.book.now.lines old c.split.new.self.states c.pop_least.new.self.states c.args.node.0 0 c.args.at _ _ c.args.right c.args.ranges.now c.narrow.new.self c.in_ok-next.next.0
+    way-down c.args.book.now old c.split.new.self.states c.pop_least.new.self.states c.args.node.0 0 c.args.at _ _ c.args.right c.args.ranges.now c.narrow.new.self c.in_ok-next.next.0
     c.in_ok-next.next.0 c.requires.hand c.requires.way (ap (λ (p : PoolContents). p.states) c.in-Ok.ensures.split) c.in_ok-next.ensures.some.0
     (ap (λ (p : PoolContents). p.states) c.in_ok-next.ensures.some.1) (sym c.proper.ensures ∙ c.if-not-proper.false) c.narrow.ensures.value (next ∙ child)

@@ -1,9 +1,10 @@
 use mir.Syntax.{w128}
-use Rattle.std.proofs.Common.{◌≡◌, ◌∙◌, ◌^◌, ◌<◌, ◌≤◌, ◌+◌, ℤ, true, false, length, sym, ap, subst, arith, to_z, of_z, unsigned_abs}
+use Rattle.std.proofs.Common.{◌≡◌, [], ◌∙◌, ◌^◌, ◌<◌, ◌≤◌, ◌+◌, ℤ, true, false, length, sym, ap, subst, arith, to_z, of_z, unsigned_abs}
 use Rattle.std.proofs.lemmas.Int.{ints, to_z-of_z}
 use Rattle.node_ranges.specs.Ranges.{AreTight, is_proper}
 use Rattle.price_lp.specs.declared.proposing.TheConstants.{LEAST_WEIGHT}
 use Rattle.proof_tree.specs.Tree.{IsLeaf}
+use Rattle.proof_tree.specs.declared.tree.Part.TheVariants as part
 use Rattle.halving_tree.specs.Halving.{IsHalved}
 use Rattle.offer_book.specs.Book.{IsBook}
 use Rattle.search_tree.specs.Growing.{HasGrown, IsPriced, node_of, obeys}
@@ -24,11 +25,11 @@ returns-then-self-count-lt2-clause-taken c =
     let line = c.split-split.result.line in
     let at = c.split-split.result.at in
     let limits : IsBook now.case.book = subst (λ (s : SearchContents). IsBook s.case.book) c.self.view_is c.line_count.ensures.limits in
-    let tight : AreTight now.case.book.lines now.ranges = subst (λ (s : SearchContents). AreTight s.case.book.lines s.ranges) c.self.view_is c.self.invariant.tight in
+    let tight : AreTight now.case.book now.ranges = subst (λ (s : SearchContents). AreTight s.case.book s.ranges) c.self.view_is c.self.invariant.tight in
     let priced : IsPriced now.case now.ranges own.priced = held-priced now.case Obeys (best_cents now.best) tree.pool.states tree.nodes c.args.node.0 now.ranges c.count.ensures.one c.requires.held in
     let obeyed : Obeys now.ranges line at =
     rule-obeyed now.case c.args.rule (best_cents now.best) now.ranges own.priced line at c.requires.backward priced c.requires.several
-    (λ is. subst (λ (s : SearchContents). IsHalved s.case.book.lines s.ranges line at) (c.self-2.view_is ∙ c.pointed-pointed.ensures) (c.split-split.ensures.halved is)) in
+    (λ is. subst (λ (s : SearchContents). IsHalved s.case.book.lines s.ranges.lines line at) (c.self-2.view_is ∙ c.pointed-pointed.ensures) (c.split-split.ensures.halved is)) in
     let full : now.case.budget < length tree.pool.states + 2 = omega (arith, c.if-self-count-lt2.true, c.count.ensures.value, c.count.ensures.few, c.requires.capacity, ap (λ (s : SearchContents). s.case.budget) (c.self-2.view_is ∙ c.pointed-pointed.ensures)) in
     let read : c.node.result.now.priced.bound ≡ own.priced.bound = ap (λ (n : SearchNode). n.priced.bound) c.node.ensures in
     let small : unsigned_abs c.node.result.now.priced.bound < 10 ^ 28 = subst (λ (b : ℤ). unsigned_abs b < 10 ^ 28) (sym read) (priced-small now.case now.ranges own.priced limits tight priced) in
@@ -44,6 +45,13 @@ price_sides-requires-clause-parent c =
     subst (λ (s : SearchContents). IsLeaf (length s.case.book.needs) c.node-2.result.now.priced.leaf) (sym c.pointed-pointed.ensures)
     (subst (λ (n : SearchNode). IsLeaf (length now.case.book.needs) n.priced.leaf) (sym c.node-2.ensures)
     (held-priced now.case (obeys now.case c.args.rule) (best_cents now.best) tree.pool.states tree.nodes c.args.node.0 now.ranges c.count.ensures.one c.requires.held).improved.well_formed)
+
+pub price_sides-requires-clause-unweighted : goal.price_sides-requires-clause-unweighted
+price_sides-requires-clause-unweighted c =
+    let now = c.args.self.now in
+    let tree = c.args.tree.now in
+    subst (λ (n : SearchNode). n.priced.leaf.weights ≡ []) (sym c.node-2.ensures)
+    (held-priced now.case (obeys now.case c.args.rule) (best_cents now.best) tree.pool.states tree.nodes c.args.node.0 now.ranges c.count.ensures.one c.requires.held).improved.unweighted
 
 pub price_sides-requires-clause-weight : goal.price_sides-requires-clause-weight
 price_sides-requires-clause-weight c =
@@ -63,12 +71,12 @@ returns-clause-taken c =
     let left = c.in_ok-sides.sides.left in
     let right = c.in_ok-sides.sides.right in
     let limits : IsBook now.case.book = subst (λ (s : SearchContents). IsBook s.case.book) c.self.view_is c.line_count.ensures.limits in
-    let tight : AreTight now.case.book.lines now.ranges = subst (λ (s : SearchContents). AreTight s.case.book.lines s.ranges) c.self.view_is c.self.invariant.tight in
+    let tight : AreTight now.case.book now.ranges = subst (λ (s : SearchContents). AreTight s.case.book s.ranges) c.self.view_is c.self.invariant.tight in
     let priced : IsPriced now.case now.ranges own.priced = held-priced now.case Obeys (best_cents now.best) tree.pool.states tree.nodes c.args.node.0 now.ranges c.count.ensures.one c.requires.held in
     let obeyed : Obeys now.ranges line at =
     rule-obeyed now.case c.args.rule (best_cents now.best) now.ranges own.priced line at c.requires.backward priced c.requires.several
-    (λ is. subst (λ (s : SearchContents). IsHalved s.case.book.lines s.ranges line at) (c.self-2.view_is ∙ c.pointed-pointed.ensures) (c.split-split.ensures.halved is)) in
-    let proper : is_proper now.ranges line at ≡ true = subst (λ (s : SearchContents). is_proper s.ranges line at ≡ true) (c.self-2.view_is ∙ c.pointed-pointed.ensures) c.split-split.ensures.proper in
+    (λ is. subst (λ (s : SearchContents). IsHalved s.case.book.lines s.ranges.lines line at) (c.self-2.view_is ∙ c.pointed-pointed.ensures) (c.split-split.ensures.halved is)) in
+    let proper : is_proper now.ranges (part.Line line) at ≡ true = subst (λ (s : SearchContents). is_proper s.ranges (part.Line line) at ≡ true) (c.self-2.view_is ∙ c.pointed-pointed.ensures) c.split-split.ensures.proper in
     let few : line < length now.case.book.lines = subst (λ (s : SearchContents). line < length s.case.book.lines) (c.self-2.view_is ∙ c.pointed-pointed.ensures) c.split-split.ensures.there in
     subst (λ (t : TreeContents). HasGrown now.case Obeys (best_cents now.best) t.pool.states t.nodes) (sym c.split.ensures)
     (split-next now.case Obeys (best_cents now.best) tree c.args.node.0 line at now.ranges left right limits tight c.count.ensures.one c.count.ensures.whole c.requires.held proper few obeyed

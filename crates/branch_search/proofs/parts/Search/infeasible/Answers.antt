@@ -1,7 +1,7 @@
 use Rattle.std.proofs.Common.{sym, subst, arith}
 use Rattle.std.proofs.lemmas.Int.{ints}
 use Rattle.case_file.specs.Case.{CaseContents}
-use Rattle.node_ranges.proofs.RangeFacts.{tight-room}
+use Rattle.node_ranges.proofs.RangeFacts.{tight-of}
 use Rattle.proof_tree.specs.declared.tree.Leaf.{Leaf}
 use Rattle.search_tree.specs.Growing.{ShowsNone}
 use Rattle.branch_search.proofs.PartFacts.{shows-none}
@@ -10,7 +10,7 @@ use Rattle.branch_search.specs.Search.{searched}
 use Rattle.branch_search.proofs.parts.Search.infeasible.Goals as goal
 
 pub tune_without_cost-bound-requires-clause-ranges : goal.tune_without_cost-bound-requires-clause-ranges
-tune_without_cost-bound-requires-clause-ranges c = rw c.self.invariant.tuned (tight-room c.self.inside.book.now.lines c.self.inside.ranges c.self.invariant.tight)
+tune_without_cost-bound-requires-clause-ranges c = rw c.self.invariant.tuned (tight-of c.self.inside.book.now c.self.inside.ranges c.self.invariant.tight)
 
 pub returns-clause-shown : goal.returns-clause-shown
 returns-clause-shown c =

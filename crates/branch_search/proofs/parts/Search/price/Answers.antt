@@ -2,7 +2,7 @@ use mir.Syntax.{w128}
 use Rattle.std.proofs.Common.{◌≡◌, ◌≤◌, ℤ, sym, ap, subst, arith, to_z, of_z}
 use Rattle.std.proofs.lemmas.Int.{ints, to_z-of_z}
 use Rattle.case_file.specs.Case.{CaseContents}
-use Rattle.node_ranges.proofs.RangeFacts.{tight-room}
+use Rattle.node_ranges.proofs.RangeFacts.{tight-of}
 use Rattle.price_lp.specs.declared.proposing.TheConstants.{LEAST_WEIGHT}
 use Rattle.proof_tree.specs.declared.tree.Leaf.{Leaf}
 use Rattle.search_tree.specs.Growing.{IsPriced}
@@ -12,7 +12,10 @@ use Rattle.branch_search.specs.Search.{searched}
 use Rattle.branch_search.proofs.parts.Search.price.Goals as goal
 
 pub tune-bound-requires-clause-ranges : goal.tune-bound-requires-clause-ranges
-tune-bound-requires-clause-ranges c = rw c.self.invariant.tuned (tight-room c.self.inside.book.now.lines c.self.inside.ranges c.self.invariant.tight)
+tune-bound-requires-clause-ranges c = rw c.self.invariant.tuned (tight-of c.self.inside.book.now c.self.inside.ranges c.self.invariant.tight)
+
+pub tune-bound-requires-clause-unweighted : goal.tune-bound-requires-clause-unweighted
+tune-bound-requires-clause-unweighted c = ap (λ (l : Leaf). l.weights) c.self.invariant.based
 
 pub returns-clause-priced : goal.returns-clause-priced
 returns-clause-priced c =

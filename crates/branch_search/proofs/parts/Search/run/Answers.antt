@@ -2,8 +2,7 @@ use mir.Syntax.{w128}
 use Rattle.std.proofs.Common.{◌≡◌, ◌∙◌, ◌^◌, ◌<◌, ℤ, List, sym, ap, subst, arith, to_z, of_z, unsigned_abs}
 use Rattle.std.proofs.lemmas.Int.{ints, to_z-of_z}
 use Rattle.case_file.specs.Case.{CaseContents}
-use Rattle.node_ranges.specs.Ranges.{AreTight, root_of}
-use Rattle.proof_tree.specs.declared.interval.Interval.{Interval}
+use Rattle.node_ranges.specs.Ranges.{AreTight, RangesContents, root_of}
 use Rattle.halving_tree.specs.declared.rule.SplitRule.TheVariants as rules
 use Rattle.offer_book.specs.Book.{IsBook}
 use Rattle.search_tree.specs.Growing.{IsPriced}
@@ -21,7 +20,7 @@ find_plan-requires-clause-bound g c =
     let now = c.args.self.now in
     let root = c.in_ok-root.root in
     let limits : IsBook now.case.book = subst (λ (s : SearchContents). IsBook s.case.book) c.self.view_is c.line_count.ensures.limits in
-    let tight : AreTight now.case.book.lines now.ranges = subst (λ (s : SearchContents). AreTight s.case.book.lines s.ranges) c.self.view_is c.self.invariant.tight in
+    let tight : AreTight now.case.book now.ranges = subst (λ (s : SearchContents). AreTight s.case.book s.ranges) c.self.view_is c.self.invariant.tight in
     let small : unsigned_abs root.bound < 10 ^ 28 = priced-small now.case now.ranges root limits tight c.in_ok-root.ensures.priced in
     let same : to_z w128 (of_z w128 root.bound) ≡ root.bound = to_z-of_z w128 root.bound (record { sfits = omega (arith, ints, small) }) in
     subst (λ (b : ℤ). unsigned_abs b < 10 ^ 28) (sym same) small
@@ -34,8 +33,8 @@ grow_by-requires-clause-tree g c =
     let same : next.case ≡ now.case = c.in_ok-find_plan.ensures.kept.case ∙ ap (λ (s : SearchContents). s.case) c.in_ok-root.ensures.search in
     record {
       root = root;
-      priced = subst (λ (k : CaseContents). IsPriced k (root_of k.book.lines) root) (sym same)
-          (subst (λ (r : List Interval). IsPriced now.case r root) c.requires.ranges c.in_ok-root.ensures.priced);
+      priced = subst (λ (k : CaseContents). IsPriced k (root_of k.book) root) (sym same)
+          (subst (λ (r : RangesContents). IsPriced now.case r root) c.requires.ranges c.in_ok-root.ensures.priced);
       alone = c.in_ok-tree.ensures ∙ ap (λ (s : SearchContents). new_tree s.case.budget root) c.self-2.view_is;
     }
 

@@ -16,7 +16,8 @@ invariant_of-result c =
       base_is = c.in_ok-base.ensures.leaf;
       reaches = c.in_ok-reach.ensures.leaf.every_date ∙ c.need_count.ensures.value;
       lined = ap length c.in_ok-plan.ensures ∙ length-replicate (length book.lines) 0;
-      tight = subst (AreTight book.lines) (sym c.in_ok-ranges.ensures) (root_is_tight book c.line_count.ensures.limits);
+      rooted = c.in_ok-root.ensures;
+      tight = subst (AreTight book) (sym c.in_ok-ranges.ensures) (root_is_tight book c.line_count.ensures.limits);
       bought = tt;
       finds = c.in_ok-finder.ensures;
     }

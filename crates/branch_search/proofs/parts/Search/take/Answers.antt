@@ -2,7 +2,6 @@ use mir.Syntax.{w128}
 use Rattle.std.proofs.Common.{◌≡◌, ◌∙◌, ◌^◌, ◌<◌, ℤ, List, sym, ap, subst, arith, to_z, of_z, unsigned_abs, Option}
 use Rattle.std.proofs.lemmas.Int.{ints, to_z-of_z}
 use Rattle.case_file.specs.Case.{CaseContents}
-use Rattle.node_ranges.proofs.RangeFacts.{tight-length}
 use Rattle.node_ranges.specs.Ranges.{AreTight}
 use Rattle.node_pool.specs.Way.{AreProper, IsWay, Step, ranges_at}
 use Rattle.offer_book.specs.Book.{IsBook}
@@ -12,7 +11,7 @@ use Rattle.search_tree.specs.Tree.{TreeContents}
 use Rattle.search_tree.specs.declared.node.SearchNode.{SearchNode}
 use Rattle.branch_search.proofs.EndFacts.{priced-small}
 use Rattle.branch_search.proofs.GrowthFacts.{closed-next, held-cheaper, held-priced, popped-way, same-closed}
-use Rattle.branch_search.proofs.PartFacts.{on-ok-map}
+use Rattle.branch_search.proofs.PartFacts.{as-many_lines, as-many_sums, on-ok-map}
 use Rattle.branch_search.proofs.TakeFacts.{held-after, held-before}
 use Rattle.branch_search.specs.Growth.{IsTakenTo, left_to_do}
 use Rattle.branch_search.specs.Parts.{AreSameBut, SearchContents, best_cents}
@@ -25,10 +24,13 @@ ranges_of-requires-clause-way c =
     let now = c.args.self.now in
     let tree = c.args.tree.now in
     let way = popped-way now.case (obeys now.case c.args.rule) (best_cents now.best) tree.pool.states tree.nodes c.args.node.0 c.count.ensures.one c.requires.held in
-    (way.0, way.1, subst (λ (s : SearchContents). AreProper s.case.book.lines way.0) (sym c.self.view_is) way.2)
+    (way.0, way.1, subst (λ (s : SearchContents). AreProper s.case.book way.0) (sym c.self.view_is) way.2)
 
 pub ranges_of-requires-clause-lines : goal.ranges_of-requires-clause-lines
-ranges_of-requires-clause-lines c = sym (tight-length c.self.inside.book.now.lines c.self.inside.ranges c.self.invariant.tight)
+ranges_of-requires-clause-lines c = as-many_lines c.self.inside.book.now c.self.inside.root c.self.inside.ranges c.self.invariant.rooted c.self.invariant.tight
+
+pub ranges_of-requires-clause-sums : goal.ranges_of-requires-clause-sums
+ranges_of-requires-clause-sums c = as-many_sums c.self.inside.book.now c.self.inside.root c.self.inside.ranges c.self.invariant.rooted c.self.invariant.tight
 
 pub closing-requires : goal.closing-requires
 closing-requires c =
@@ -37,9 +39,9 @@ closing-requires c =
     let ranges = c.ranges_of.new.into in
     let read : c.node.result.now.priced.bound ≡ (node_of tree.nodes c.args.node.0).priced.bound = ap (λ (n : SearchNode). n.priced.bound) c.node.ensures in
     let limits : IsBook now.case.book = subst (λ (s : SearchContents). IsBook s.case.book) c.self.view_is c.line_count.ensures.limits in
-    let tight : AreTight now.case.book.lines ranges = subst (λ (s : SearchContents). AreTight s.case.book.lines ranges) c.self.view_is c.ranges_of.ensures.tight in
+    let tight : AreTight now.case.book ranges = subst (λ (s : SearchContents). AreTight s.case.book ranges) c.self.view_is c.ranges_of.ensures.tight in
     let held = held-before now c.args.rule tree.pool.states tree.nodes c.args.node.0 ranges c.requires.held
-    (subst (λ (s : SearchContents). (way : List Step) → IsWay tree.pool.states c.args.node.0 way → AreProper s.case.book.lines way → ranges ≡ ranges_at s.case.book.lines way) c.self.view_is c.ranges_of.ensures.value) in
+    (subst (λ (s : SearchContents). (way : List Step) → IsWay tree.pool.states c.args.node.0 way → AreProper s.case.book way → ranges ≡ ranges_at s.case.book way) c.self.view_is c.ranges_of.ensures.value) in
     let priced : IsPriced now.case ranges (node_of tree.nodes c.args.node.0).priced = held-priced now.case (obeys now.case c.args.rule) (best_cents now.best) tree.pool.states tree.nodes c.args.node.0 ranges c.count.ensures.one held in
     let small : unsigned_abs c.node.result.now.priced.bound < 10 ^ 28 = subst (λ (b : ℤ). unsigned_abs b < 10 ^ 28) (sym read) (priced-small now.case ranges (node_of tree.nodes c.args.node.0).priced limits tight priced) in
     let same : to_z w128 (of_z w128 c.node.result.now.priced.bound) ≡ c.node.result.now.priced.bound = to_z-of_z w128 c.node.result.now.priced.bound (record { sfits = omega (arith, ints, small) }) in
@@ -51,7 +53,7 @@ go_on-requires-clause-held c =
     let tree = c.args.tree.now in
     let ranges = c.ranges_of.new.into in
     let held = held-before now c.args.rule tree.pool.states tree.nodes c.args.node.0 ranges c.requires.held
-    (subst (λ (s : SearchContents). (way : List Step) → IsWay tree.pool.states c.args.node.0 way → AreProper s.case.book.lines way → ranges ≡ ranges_at s.case.book.lines way) c.self.view_is c.ranges_of.ensures.value) in
+    (subst (λ (s : SearchContents). (way : List Step) → IsWay tree.pool.states c.args.node.0 way → AreProper s.case.book way → ranges ≡ ranges_at s.case.book way) c.self.view_is c.ranges_of.ensures.value) in
     held-after now c.closing.new.self c.args.rule tree.pool.states tree.nodes c.args.node.0 ranges held
     (subst (λ (s : SearchContents). AreSameBut (record s { ranges = ranges }) c.closing.new.self) c.self.view_is c.in_ok-closing.ensures.kept)
     (subst (λ (s : SearchContents). IsNoDearer (best_cents s.best) (best_cents c.closing.new.self.best)) c.self.view_is c.in_ok-closing.ensures.no_dearer)
@@ -77,12 +79,12 @@ returns-in_default c =
     let how = c.in_ok-closing.closing in
     let own = node_of tree.nodes c.args.node.0 in
     let held = held-before now c.args.rule tree.pool.states tree.nodes c.args.node.0 ranges c.requires.held
-    (subst (λ (s : SearchContents). (way : List Step) → IsWay tree.pool.states c.args.node.0 way → AreProper s.case.book.lines way → ranges ≡ ranges_at s.case.book.lines way) c.self.view_is c.ranges_of.ensures.value) in
+    (subst (λ (s : SearchContents). (way : List Step) → IsWay tree.pool.states c.args.node.0 way → AreProper s.case.book way → ranges ≡ ranges_at s.case.book way) c.self.view_is c.ranges_of.ensures.value) in
     let cheaper : IsNoDearer (best_cents now.best) after = subst (λ (s : SearchContents). IsNoDearer (best_cents s.best) after) c.self.view_is c.in_ok-closing.ensures.no_dearer in
     let next : IsHeld now.case Obeys after tree.pool.states tree.nodes c.args.node.0 ranges = held-cheaper now.case Obeys (best_cents now.best) after tree.pool.states tree.nodes c.args.node.0 ranges cheaper held in
     let read : c.node.result.now.priced.bound ≡ own.priced.bound = ap (λ (n : SearchNode). n.priced.bound) c.node.ensures in
     let limits : IsBook now.case.book = subst (λ (s : SearchContents). IsBook s.case.book) c.self.view_is c.line_count.ensures.limits in
-    let tight : AreTight now.case.book.lines ranges = subst (λ (s : SearchContents). AreTight s.case.book.lines ranges) c.self.view_is c.ranges_of.ensures.tight in
+    let tight : AreTight now.case.book ranges = subst (λ (s : SearchContents). AreTight s.case.book ranges) c.self.view_is c.ranges_of.ensures.tight in
     let priced : IsPriced now.case ranges own.priced = held-priced now.case Obeys (best_cents now.best) tree.pool.states tree.nodes c.args.node.0 ranges c.count.ensures.one held in
     let small : unsigned_abs c.node.result.now.priced.bound < 10 ^ 28 = subst (λ (b : ℤ). unsigned_abs b < 10 ^ 28) (sym read) (priced-small now.case ranges own.priced limits tight priced) in
     let same : to_z w128 (of_z w128 c.node.result.now.priced.bound) ≡ own.priced.bound = to_z-of_z w128 c.node.result.now.priced.bound (record { sfits = omega (arith, ints, small) }) ∙ read in

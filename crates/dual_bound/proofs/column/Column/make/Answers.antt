@@ -8,7 +8,7 @@ use Rattle.offer_book.specs.Schedule.{kind_rate, schedule_of}
 use Rattle.offer_book.specs.declared.payment_days.PaymentDays.{PaymentDays}
 use Rattle.offer_book.proofs.ScheduleFacts.{schedule-short}
 use Rattle.cash_table.proofs.ScheduledFacts.{kept-all, kept-few}
-use Rattle.dual_bound.specs.Columns.{HasHead, is_principal, paying}
+use Rattle.dual_bound.specs.Columns.{HasHead, is_principal}
 use Rattle.dual_bound.proofs.PayingFacts.{all-pay, principal-pays}
 use Rattle.dual_bound.proofs.column.Column.make.Goals as goal
 

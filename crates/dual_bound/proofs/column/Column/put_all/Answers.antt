@@ -1,9 +1,9 @@
-use Rattle.std.proofs.Common.{◌≡◌, ◌∙◌, ◌≤ℤ◌, ap, subst, arith}
+use Rattle.std.proofs.Common.{◌≤ℤ◌, ap, arith}
 use Rattle.std.proofs.lemmas.Int.{ints}
 use Rattle.std.proofs.lemmas.List.Elements.{All-same}
 use Rattle.escrow_units.specs.Calendar.{years_after_of}
 use Rattle.payment_schedule.specs.declared.schedule.ScheduledPayment.{ScheduledPayment}
-use Rattle.dual_bound.specs.Columns.{HasHead, paying}
+use Rattle.dual_bound.specs.Columns.{paying}
 use Rattle.dual_bound.proofs.ColumnMade.{extends-on, keeps-on, made, made-small, one-more, paying-within}
 use Rattle.dual_bound.proofs.column.Column.put_all.Goals as goal
 

@@ -8,4 +8,5 @@ invariant_of-self c = (
     room = c.self.invariant.0.room;
   },
   c.self.invariant.1,
+  c.self.invariant.2,
 )

@@ -1,7 +1,7 @@
 use Rattle.std.proofs.Common.{◌∙◌, ◌<◌, All, get_or, length, sym, ap, subst, arith}
 use Rattle.std.proofs.lemmas.List.{get_or_default}
 use Rattle.dual_bound.specs.Columns.{IsLightWorth, column_form, worth_together}
-use Rattle.dual_bound.specs.LeafBound.{form_of}
+use Rattle.dual_bound.specs.LeafBound.{priced_form}
 use Rattle.dual_bound.specs.declared.column.OtherPayment.{OtherPayment}
 use Rattle.dual_bound.specs.declared.worth.Worth.{Worth}
 use Rattle.std.proofs.Common.{List}
@@ -43,4 +43,4 @@ returns c =
     λ d. c.form.ensures ∙ (λ i. column_form (own i) (c.as_slice.ensures.value i) c.index-column.result.now)
     ∙ column-form c.args.self.now.yield_units.0 c.args.book.now c.args.self.now.priced.leaf c.line.result.now c.args.self.now.days.items c.args.self.now.priced.worths.items c.index-column.result.now
     c.requires.tableau.leaf.every_date c.requires.tableau.worths known.is_column
-    ∙ ap (form_of c.args.self.now.yield_units.0 c.args.book.now c.args.self.now.priced.leaf) (c.line.ensures ∙ get_or_default c.args.book.now.lines c.args.line c.line.result.now d c.requires.line)
+    ∙ ap (priced_form c.args.self.now.yield_units.0 c.args.book.now c.args.self.now.priced.leaf) (c.line.ensures ∙ get_or_default c.args.book.now.lines c.args.line c.line.result.now d c.requires.line)

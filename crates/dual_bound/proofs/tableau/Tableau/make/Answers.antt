@@ -1,9 +1,11 @@
 use Rattle.std.proofs.Common.{◌<◌, ◌≤◌, All, length, sym, ap, subst, arith}
+use Rattle.std.proofs.lemmas.List.{length-map}
 use Rattle.std.proofs.lemmas.Slice.Zip.{AllZip-long}
 use Rattle.fixed_powers.specs.DiscountPowers.{one}
 use Rattle.cash_table.proofs.PaymentFacts.{count_lines}
-use Rattle.dual_bound.specs.Columns.{IsColumn, IsLightWorth}
+use Rattle.dual_bound.specs.Columns.{IsColumn, IsLightWorth, IsStopWithin, worth_on}
 use Rattle.dual_bound.specs.declared.column.Column.{Column}
+use Rattle.proof_tree.specs.declared.tree.Leaf.{Leaf}
 use Rattle.dual_bound.proofs.TableauFacts.{columns-there, worths-light}
 use Rattle.dual_bound.proofs.tableau.Tableau.make.Goals as goal
 
@@ -25,6 +27,19 @@ make-requires-clause-there c =
     (subst (All (λ (column : Column). All (λ place. place < length c.columns_of.new.table.days.items) column.places.items)) (sym c.as_slice-4.ensures.value)
     (columns-there c.args.powers.now.yield_units c.args.book.now c.columns_of.new.table.days.items c.args.book.now.lines c.in_ok-columns.columns.items c.in_ok-columns.ensures.columns))
 
+pub sums_of-requires-clause-there : goal.sums_of-requires-clause-there
+sums_of-requires-clause-there c =
+    subst (All (IsStopWithin (length c.as_slice-6.result.now))) (sym c.as_slice-5.ensures.value)
+    (subst (λ n. All (IsStopWithin n) c.in_ok-series.series.stops.items)
+    (omega (
+      arith,
+      ap length c.as_slice-6.ensures.value,
+      ap length c.in_ok-worths.ensures,
+      length-map c.as_slice-2.result.now (worth_on c.in_ok-leaf.leaf),
+      ap length c.as_slice-2.ensures.value,
+      ap length c.as_slice-3.ensures.value,
+    )) c.in_ok-series.ensures.laid.there)
+
 pub sums_of-requires-clause-light : goal.sums_of-requires-clause-light
 sums_of-requires-clause-light c =
     subst (All IsLightWorth) (sym c.as_slice-6.ensures.value)
@@ -35,6 +50,7 @@ pub returns-clause-tableau : goal.returns-clause-tableau
 returns-clause-tableau c = record {
   limits = c.need_count.ensures.limits;
   leaf = rw (← c.need_count.ensures.value) c.in_ok-leaf.ensures.leaf;
+  unweighted = ap (λ (leaf : Leaf). leaf.weights) c.in_ok-leaf.ensures.value;
   powers = c.in_ok-columns.ensures.table.powers;
   columns = rw (c.yield_units.ensures) c.in_ok-columns.ensures.columns;
   small = c.in_ok-columns.ensures.small;

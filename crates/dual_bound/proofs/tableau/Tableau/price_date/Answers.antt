@@ -36,11 +36,11 @@ pub mend_at-requires-clause-light : goal.mend_at-requires-clause-light
 mend_at-requires-clause-light c =
     let self = c.args.self.now in
     let tableau = c.requires.tableau in
-    let leaf : Leaf = record { rho = self.priced.leaf.rho; mu = self.priced.leaf.mu; prices = c.put.new.self } in
+    let leaf : Leaf = record { rho = self.priced.leaf.rho; mu = self.priced.leaf.mu; prices = c.put.new.self; weights = self.priced.leaf.weights } in
     let new = c.price_days_at.new.worths in
     let len : self.priced.worths.len ≡ length new = omega (arith, self.priced.worths.ok.0, c.price_days_at.auto.worths, ap length c.as_mut_slice.ensures.value) in
     let well : IsLeaf (length c.args.book.now.needs) leaf =
-    subst (λ (prices : Prices). IsLeaf (length c.args.book.now.needs) (record { rho = self.priced.leaf.rho; mu = self.priced.leaf.mu; prices = prices })) (sym c.put.ensures) c.requires.leaf in
+    subst (λ (prices : Prices). IsLeaf (length c.args.book.now.needs) (record { rho = self.priced.leaf.rho; mu = self.priced.leaf.mu; prices = prices; weights = self.priced.leaf.weights })) (sym c.put.ensures) c.requires.leaf in
     let priced : new ≡ map (worth_on leaf) c.as_slice-2.result.now =
     date-priced (length c.args.book.now.needs) self.priced.leaf leaf c.args.place c.args.price c.as_slice-2.result.now self.date_days.items c.as_mut_slice.result.now c.price_days_at.new.worths c.index.result.now
     (subst (λ days. AreDateDays (length c.args.book.now.needs) days self.date_days.items) (sym c.as_slice-2.ensures.value) tableau.date_days) tableau.leaf.every_date
@@ -70,7 +70,7 @@ pub returns-clause-tableau : goal.returns-clause-tableau
 returns-clause-tableau c =
     let self = c.args.self.now in
     let tableau = c.requires.tableau in
-    let leaf : Leaf = record { rho = self.priced.leaf.rho; mu = self.priced.leaf.mu; prices = c.put.new.self } in
+    let leaf : Leaf = record { rho = self.priced.leaf.rho; mu = self.priced.leaf.mu; prices = c.put.new.self; weights = self.priced.leaf.weights } in
     let new = c.price_days_at.new.worths in
     let len : self.priced.worths.len ≡ length new = omega (arith, self.priced.worths.ok.0, c.price_days_at.auto.worths, ap length c.as_mut_slice.ensures.value) in
     let priced : new ≡ map (worth_on leaf) c.as_slice-2.result.now =
@@ -111,7 +111,8 @@ returns-clause-tableau c =
     written c.mend_at.new.sums (drop (length c.mend_at.new.sums) self.priced.sums.items) self.priced.sums.len sums_len in
     record {
       limits = tableau.limits;
-      leaf = subst (λ (prices : Prices). IsLeaf (length c.args.book.now.needs) (record { rho = self.priced.leaf.rho; mu = self.priced.leaf.mu; prices = prices })) (sym c.put.ensures) c.requires.leaf;
+      leaf = subst (λ (prices : Prices). IsLeaf (length c.args.book.now.needs) (record { rho = self.priced.leaf.rho; mu = self.priced.leaf.mu; prices = prices; weights = self.priced.leaf.weights })) (sym c.put.ensures) c.requires.leaf;
+      unweighted = tableau.unweighted;
       powers = tableau.powers;
       columns = tableau.columns;
       small = tableau.small;

@@ -6,7 +6,7 @@ use Rattle.node_ranges.specs.Claims.{least_cost}
 use Rattle.proof_tree.specs.Tree.{IsLeaf}
 use Rattle.proof_tree.specs.declared.tree.Leaf.{Leaf}
 use Rattle.dual_tune.specs.Sweep.{bound_at, shown_at, stepped}
-use Rattle.dual_tune.proofs.SweepFacts.{shown-rises, step-weight, step-whole}
+use Rattle.dual_tune.proofs.SweepFacts.{shown-rises, step-weight, step-weights, step-whole}
 use Rattle.dual_tune.proofs.parts.Parts.improve.Goals as goal
 
 pub returns-then-proposed-reached-clause-improved : goal.returns-then-proposed-reached-clause-improved
@@ -20,6 +20,7 @@ returns-then-proposed-reached-clause-improved c =
     let shown : c.propose-proposed.result ≡ shown_at given c.copy_leaf.new.into = c.propose-proposed.ensures.shown ∙ ap (shown_at given) (sym same) in
     record {
       well_formed = subst (IsLeaf (length given.book.now.needs)) (sym same) c.propose-proposed.ensures.parts.proposed;
+      unweighted = ap (λ (l : Leaf). l.weights) same ∙ c.propose-proposed.ensures.unweighted;
       alike = c.propose-proposed.ensures.alike ∙ ap (λ (l : Leaf). l.rho == 0) (sym same);
       given =
           let rises = shown-rises given given.leaf.now given.leaf.now.rho best.result.bound refl best.ensures.best.no_less in
@@ -40,6 +41,7 @@ returns-clause-improved c =
     ap (λ (w : ℕ). least_cost w best.result.bound) (sym whole) ∙ ap (least_cost c.take_step.new.leaf.rho) bound in
     record {
       well_formed = subst (IsLeaf (length given.book.now.needs)) (sym same) best.ensures.best.well_formed;
+      unweighted = ap (λ (l : Leaf). l.weights) same ∙ step-weights given.leaf.now best.result.step ∙ given.unweighted;
       alike = ap (λ (w : ℕ). w == 0) (sym whole);
       given =
           let rises = shown-rises given given.leaf.now given.leaf.now.rho best.result.bound refl best.ensures.best.no_less in

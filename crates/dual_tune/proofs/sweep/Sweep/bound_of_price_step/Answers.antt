@@ -54,7 +54,7 @@ lines_change-lines-requires-clause-own c =
 
 pub lines_change-lines-requires-clause-priced : goal.lines_change-lines-requires-clause-priced
 lines_change-lines-requires-clause-priced c =
-    priced-for c.args.self.now.points c.args.given.now.ranges.now c.price_step_for.new.columns.leaf (with_price c.args.given.now.leaf.now c.args.place c.price_beside-price.result)
+    priced-for c.args.self.now.points c.args.given.now.ranges.now.lines c.price_step_for.new.columns.leaf (with_price c.args.given.now.leaf.now c.args.place c.price_beside-price.result)
     c.requires.kept.ready.points (step-priced (goal.at.lines_change-lines-requires-clause-priced c).After-price_step_for)
 
 pub lines_change-lines-requires-clause-leasts : goal.lines_change-lines-requires-clause-leasts

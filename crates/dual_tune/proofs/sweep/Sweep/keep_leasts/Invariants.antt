@@ -15,5 +15,5 @@ invariant-loop-line l = record {
   small : All (λ least. unsigned_abs least.least ≤ 71 * 10 ^ 33) l.self.leasts.items;
   leasts : (line : ℕ) (d : Line) (e : Interval) (f : LineLeast) → line < l.line
       → (get_or l.self.leasts.items line f).least
-      ≡ least_within l.given.yield_units.0 l.given.book.now l.given.leaf.now (get_or l.given.book.now.lines line d) (get_or l.given.ranges.now line e);
+      ≡ least_within l.given.yield_units.0 l.given.book.now l.given.leaf.now (get_or l.given.book.now.lines line d) (get_or l.given.ranges.now.lines line e);
 }

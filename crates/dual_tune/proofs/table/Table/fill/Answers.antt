@@ -35,6 +35,7 @@ returns-clause-table c =
         steps = subst (HasRoomForPayers payers) items (subst (λ (p : List Payers). HasRoomForPayers p put_dates) c.as_slice.ensures.value c.put_dates.ensures.room);
       };
       leaf = subst (IsLeaf (length book.needs)) (sym leaf_is) c.requires.leaf;
+      unweighted = ap (λ (l : Leaf). l.weights) leaf_is ∙ c.requires.unweighted;
       needs = to_z-of_z w128 c.needs_worth-self.result (record { sfits = c.needs_worth-self.type_inv }) ∙ c.needs_worth-self.ensures
           ∙ (λ i. pos (COEFFICIENT_SCALE * priced_needs (room.own i).needs (sym leaf_is i).prices));
       lines = subst (λ (l : Leaf). AreMultiplierForms n book l c.put.new.self) (sym c.put.ensures.leaf) (record { room = lines; given = c.put.ensures.given; multipliers = c.put.ensures.multipliers });

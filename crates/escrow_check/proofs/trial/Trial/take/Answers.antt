@@ -13,7 +13,7 @@ take_split-requires c =
     let case : CaseContents = case_view c.args.case.now in
     let leaf : Leaf = c.args.leaf.now in
     let P : Item → Type 0 = λ i. Comes case c.requires.comes.0 c.requires.comes.1 i leaf c.args.self.now in
-    ready-of case c.requires.comes.0 c.args.self.now (comes_split case c.requires.comes.0 c.requires.comes.1 c.in-Split.line c.in-Split.at leaf c.args.self.now (subst P c.in-Split.is c.requires.comes.2))
+    ready-of case c.requires.comes.0 c.args.self.now (comes_split case c.requires.comes.0 c.requires.comes.1 c.in-Split.part c.in-Split.at leaf c.args.self.now (subst P c.in-Split.is c.requires.comes.2))
 
 pub take_point-requires : goal.take_point-requires
 take_point-requires c =
@@ -51,7 +51,7 @@ returns-in-Split-clause-knows c = λ cert d comes.
     let leaf : Leaf = c.args.leaf.now in
     let P : Item → Type 0 = λ i. Comes case cert d i leaf c.args.self.now in
     let Q : Item → Type 0 = λ i. Knows case (with_item cert i leaf) (due_after d i) c.take_split.new.self in
-    subst Q (sym c.in-Split.is) (knows-split case cert d c.in-Split.line c.in-Split.at leaf c.args.self.now c.take_split.new.self (subst P c.in-Split.is comes) c.take_split.ensures))
+    subst Q (sym c.in-Split.is) (knows-split case cert d c.in-Split.part c.in-Split.at leaf c.args.self.now c.take_split.new.self (subst P c.in-Split.is comes) c.take_split.ensures))
 
 pub returns-in-Point-clause-knows : goal.returns-in-Point-clause-knows
 returns-in-Point-clause-knows c = λ cert d comes.

@@ -3,4 +3,4 @@ use Rattle.escrow_check.proofs.trial.Trial.take_point.Goals as goal
 
 pub is_closed_point-closed-requires-clause-ranges : goal.is_closed_point-closed-requires-clause-ranges
 is_closed_point-closed-requires-clause-ranges c =
-    within-tight c.args.case.now.book.lines c.args.self.now.walk.ranges c.args.self.now.walk.splits.items (record { at = c.requires.walk.at; split = c.requires.walk.split })
+    within-tight c.args.case.now.book c.args.self.now.walk.ranges c.args.self.now.walk.splits.items (record { at = c.requires.walk.at; split = c.requires.walk.split })

@@ -1,6 +1,6 @@
 use mir.Syntax.{w128}
 use mir.Val.{of_z, to_z}
-use Rattle.std.proofs.Common.{◌≡◌, ◌≤◌, ◌<◌, ◌∙◌, ◌∷◌, ◌++◌, [], ℤ, List, None, Some, ap, arith, refl, subst, sym, if◌then◌else◌}
+use Rattle.std.proofs.Common.{◌≡◌, ◌∙◌, ◌∷◌, ◌++◌, [], ℤ, List, None, Some, ap, arith, refl, subst, sym, if◌then◌else◌}
 use Rattle.std.specs.Result.{is_ok}
 use Rattle.node_pool.specs.declared.node.Node.{Node}
 use Rattle.node_pool.specs.declared.node.State.TheVariants as state

@@ -1,13 +1,13 @@
-use Rattle.std.proofs.Common.{◌∙◌, ◌≤◌, ap, map, arith}
-use Rattle.std.proofs.lemmas.List.{take_all}
+use Rattle.std.proofs.Common.{◌∙◌, ap, map}
 use Rattle.std.proofs.lemmas.List.Elements.{All-same}
-use Rattle.node_ranges.specs.Ranges.{root_of, whole_interval}
-use Rattle.proof_tree.specs.declared.interval.Interval.{Interval}
-use Rattle.node_ranges.proofs.RangeFacts.{root-ordered}
+use Rattle.offer_book.specs.Sums.{sums_of}
+use Rattle.offer_book.specs.declared.line.Line.{Line}
+use Rattle.node_ranges.specs.Ranges.{IsOrdered, root_of, whole_interval}
+use Rattle.node_ranges.proofs.RangeFacts.{root-ordered, up-ordered}
 use Rattle.node_ranges.proofs.ranges.Ranges.root.Goals as goal
 
 pub invariant_of-result : goal.invariant_of-result
-invariant_of-result c =
-    All-same (λ (i : Interval). i.low ≤ i.high) c.loop-line.intervals.items (root_of c.args.book.now.lines)
-    (c.loop-line.invariant ∙ ap (map whole_interval) (take_all c.loop-line.line-index c.lines-line-items.result.now (omega arith) ∙ c.lines-line-items.ensures.value))
-    (root-ordered c.args.book.now.lines)
+invariant_of-result c = (
+  All-same IsOrdered c.in_ok-whole_lines.field-0.items (root_of c.args.book.now).lines (c.in_ok-whole_lines.ensures ∙ ap (map whole_interval) c.lines.ensures.value) (root-ordered c.args.book.now.lines),
+  All-same IsOrdered c.in_ok-whole_sums.field-0.items (root_of c.args.book.now).sums c.in_ok-whole_sums.ensures (up-ordered (sums_of c.args.book.now (map (λ (line : Line). line.most) c.args.book.now.lines))),
+)

@@ -8,4 +8,4 @@ pub start_within-requires : goal.start_within-requires
 start_within-requires c =
     let held : length c.self.inside.diver.lines ≡ length c.self.inside.book.now.lines = ap (λ (b : BookContents). length b.lines) c.self.invariant.1 in
     let viewed : length c.self.inside.book.now.lines ≡ length c.args.self.now.book.lines = ap (λ (s : SearchContents). length s.book.lines) c.self.view_is in
-    record { ranges = sym (held ∙ viewed ∙ room-length c.args.self.now.book.lines c.args.ranges.now c.requires.ranges) }
+    record { ranges = sym (held ∙ viewed ∙ room-length c.args.self.now.book.lines c.args.ranges.now.lines c.requires.ranges.lines) }

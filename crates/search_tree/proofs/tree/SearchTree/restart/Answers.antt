@@ -1,5 +1,5 @@
 use mir.Syntax.{w128}
-use Rattle.std.proofs.Common.{rules, ◌≡◌, ◌∙◌, ◌≤◌, ◌∷◌, ◌++◌, [], ℕ, ℤ, List, length, ap, arith, sym, to_z, of_z, if◌then◌else◌, Bool, true}
+use Rattle.std.proofs.Common.{rules, ◌≡◌, ◌∙◌, ◌≤◌, ◌∷◌, ◌++◌, [], List, length, ap, arith, sym, to_z, of_z, if◌then◌else◌, Bool, true}
 use Rattle.std.specs.Result.{is_ok}
 use Rattle.std.proofs.lemmas.Int.{to_z-of_z}
 use Rattle.node_pool.specs.Pool.{PoolContents, new_pool}
