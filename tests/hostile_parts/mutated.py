@@ -13,9 +13,22 @@ from .ground import ANSWERS, NAMES, NAMES_BESIDE, ROOT, Run, Tries, example, run
 PIECES = (
     b"0", b"1", b"00", b"-1", b"9" * 16, b"30.000", b"30.001", b"29.99", b"2025-01-15", b"2024-02-29", b"2065-01-15", b"2199-12-31",
     b"max", b"settle", b"need", b"bond", b"call", b"cash", b"price", b"pay", b"terms", b"rate", b"offer", b"note", b"budget",
-    b"held", b"portfolio none", b"nodes", b"s 1 2", b"p", b"l 0 0 0", b"end", b"gap 0", b"buy 1 1", b"1000000000000", b"\r\n", b"\n\n",
+    b"held", b"portfolio none", b"nodes", b"s 1 2", b"t 1 49", b"t 1 0 1", b"p", b"l 0 0 0", b"end", b"gap 0", b"buy 1 1", b"1000000000000", b"\r\n", b"\n\n",
     b'"', b'""', b"\xef\xbb\xbf", b"\xff", b"\x00", b",", b",,", b" ",
 )  # fmt: skip
+# Of the example `first` a certificate of version 3, with a split of a sum, a weight of it, stairs, and a weight of the cost.
+WEIGHED = b"""escrow-certificate 3
+portfolio 1
+buy 1 50
+gap 0
+vectors 1
+v 1000000000000
+nodes 3
+t 1 49
+l 0 0 0 1 1000000000000 t 1 0 1000000000000
+l 500000000000 0 1 1 0 t 1 1 500000000000
+end
+"""
 
 
 def _changed(draw: random.Random, data: bytes) -> bytes:
@@ -73,10 +86,13 @@ def tries(tries: Tries, asked) -> None:
     until = time.monotonic() + asked.seconds
     number = 0
     while time.monotonic() < until:
-        with example(draw.choice(examples)) as folder:
+        name_of_example = draw.choice(examples)
+        with example(name_of_example) as folder:
             has_holdings = (folder / "held.csv").exists()
             command, names = ("check-held", NAMES_BESIDE) if has_holdings else ("check", NAMES)
             whole = {name: (folder / name).read_bytes() for name in names}
+            if name_of_example == "first" and not asked.judge and draw.random() < 0.5:
+                whole[names[-1]] = WEIGHED
             for _ in range(200):
                 number += 1
                 for name, data in whole.items():

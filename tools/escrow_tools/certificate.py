@@ -26,9 +26,14 @@ TITLES = ("escrow-certificate 1", "escrow-certificate 2", "escrow-certificate 3"
 """The first line of each version."""
 
 
+def is_weighed(data: bytes) -> bool:
+    """Whether a text is of version 3, whose leaves weigh the cost by a number, and which splits sums."""
+    return data.startswith(b"escrow-certificate 3\n")
+
+
 def is_packed(data: bytes) -> bool:
     """Whether a text is of version 2 or 3, whose leaves share vectors of prices."""
-    return data.startswith((b"escrow-certificate 2\n", b"escrow-certificate 3\n"))
+    return data.startswith(b"escrow-certificate 2\n") or is_weighed(data)
 
 
 def read_certificate(data: bytes) -> Optional[Certificate]:

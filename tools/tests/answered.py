@@ -14,6 +14,7 @@ RATES = "terms,1000,100\noffer,2025-04-15,0.00,,10000\n"
 CERTIFICATE = "escrow-certificate 1\nportfolio 1\nbuy 1 50\ngap 0\nnodes 1\nl 1 0 1000000000000\nend\n"
 PACKED = "escrow-certificate 2\nportfolio 1\nbuy 1 50\ngap 0\nvectors 1\nv 1000000000000\nnodes 1\nl 1 0 1\nend\n"
 WEIGHED = PACKED.replace("certificate 2", "certificate 3").replace("l 1 0 1", "l 500000000000 0 1 1 500000000000")
+SUMS = WEIGHED.replace("nodes 1\nl 500000000000 0 1 1 500000000000", "nodes 3\nt 1 49\nl 0 0 1\nl 1000000000000 0 1")
 
 
 @dataclass(frozen=True)
@@ -71,6 +72,10 @@ def packed(old: str, new: str) -> Callable:
 
 def weighed(old: str, new: str) -> Callable:
     return case(certificate=WEIGHED.replace(old, new))
+
+
+def sums(old: str, new: str) -> Callable:
+    return case(certificate=SUMS.replace(old, new))
 
 
 NOT_ENOUGH = "terms,1000,100\noffer,2025-04-15,0.00,,3000\n"
@@ -138,9 +143,11 @@ ANSWERED = (
     Answered("a gap that isn't allowed", case(issue=COARSE, certificate=COARSE_CERT), CHECK, "no GapAbove", ("allowance,50.00",)),
     Answered("a gap above the allowance", case(issue=COARSE + "allowance,49.99\n", certificate=COARSE_CERT), CHECK, "no GapAbove",
              ("allowance,50.00", "allows 49.99")),
+    Answered("a gap above every allowance", case(issue=COARSE, certificate=COARSE_CERT.replace("gap 5000", "gap 10000000000001")), CHECK,
+             "no GapAbove", ("no allowance is that great", "`./escrow best`")),
     Answered("prices that bear nothing out", cert("l 1 0 1000000000000", "l 1 0 0"), CHECK, "no WeakLeaf 1", ("node 1", "gap")),
     Answered("a split of a line that isn't offered", cert("nodes 1\nl 1 0 1000000000000", "nodes 3\ns 9 1\nl 1 0 0\nl 1 0 0"), CHECK,
-             "no BadSplit 1", ("node 1",)),
+             "no BadSplit 1", ("node 1", "line 6: s 9 1", "there is no line 9: 1 offer")),
     Answered("line ends of Windows", cert("\n", "\r\n"), CHECK, "no Grammar 1 Header", ("CR LF",)),
     Answered("a byte order mark", case(certificate=b"\xef\xbb\xbf" + CERTIFICATE.encode()), CHECK, "no Grammar 1 Header",
              ("byte order mark",)),
@@ -152,9 +159,42 @@ ANSWERED = (
     Answered("too few prices of a vector", packed("v 1000000000000", "v"), CHECK, "no Grammar 6 Count", ("1 need date", "0 prices")),
     Answered("a place without a price", packed("l 1 0 1", "l 1 0 1 1"), CHECK, "no Grammar 8 Count", ("pairs of a place and a price",)),
     Answered("a place without a price beside a weight", weighed("l 500000000000 0 1 1 500000000000", "l 500000000000 0 1 1"), CHECK,
-             "no Grammar 8 Count", ("behind `l`, WEIGHT, MULTIPLIER and VECTOR",)),
+             "no Grammar 8 Count", ("behind `l`, WEIGHT, MULTIPLIER and VECTOR", "1 to 64 weights of sums")),
     Answered("a blank behind version 3", weighed("escrow-certificate 3", "escrow-certificate 3 "), CHECK, "no Grammar 1 Header",
-             ("`escrow-certificate 3`", "`l WEIGHT MULTIPLIER VECTOR PLACE PRICE ..`")),
+             ("`escrow-certificate 3`", "`t DATE UNITS`", "`l WEIGHT MULTIPLIER VECTOR PLACE PRICE ..`", "`l .. t DATE SIDE WEIGHT ..`")),
+    Answered("a vector that isn't there", weighed("0 1 1 500000000000", "0 2"), CHECK, "no Grammar 8 Number",
+             ("VECTOR is the number of a `v` line, or 0 for stairs", "a place is a need date, from 1 to 1")),
+    Answered("a weight of the cost in version 2", packed("l 1 0 1", "l 500000000000 0 1"), CHECK, "no Grammar 8 Number",
+             ("in version 2 WHOLE is 0 or 1", "is of version 3")),
+    Answered("stairs that bear nothing out", weighed("l 500000000000 0 1 1 500000000000", "l 1000000000000 0 0"), CHECK, "no WeakLeaf 1",
+             ("certificate.txt, line 8: l 1000000000000 0 0", "a cent of cost as 1, and a cent that comes in by 2025-04-15 as 2",
+              "write a greater `gap`")),
+    Answered("half of the weight beside the whole price", weighed("1 1 500000000000", "1"), CHECK, "no WeakLeaf 1",
+             ("a cent of cost as 0.5, and a cent that comes in by 2025-04-15 as 1",)),
+    Answered("a split of a sum, whose end isn't weighed", case(certificate=SUMS), CHECK, "no WeakLeaf 2",
+             ("certificate.txt, line 9: l 0 0 1", "a leaf that counts no cost", "no gap mends it")),
+    Answered("a split of a sum, whose end is weighed", sums("l 0 0 1", "l 0 0 1 t 1 0 1000000000000"), CHECK, "yes", ("accepted",)),
+    Answered("the other end of a sum", sums("l 0 0 1", "l 0 0 1 t 1 1 1000000000000"), CHECK, "no WeakLeaf 2",
+             ("buys at least 0 steps of 100 dollars of the coarse lines, and each cent of such a step counts 1", "no gap mends it")),
+    Answered("too small a weight of a sum", sums("l 0 0 1", "l 0 0 1 t 1 0 250000000000"), CHECK, "no WeakLeaf 2",
+             ("buys at most 49 steps of 100 dollars of the coarse lines, and each cent of such a step counts 0.25",)),
+    Answered("two weights of one sum", sums("l 0 0 1", "l 0 0 1 t 1 0 5 1 1 5"), CHECK, "no Grammar 9 Order",
+             ("so do the need dates of the sums that it weighs",)),
+    Answered("no weight behind `t`", sums("l 0 0 1", "l 0 0 1 t"), CHECK, "no Grammar 9 Count", ("1 to 64 weights of sums",)),
+    Answered("a weight of a sum that is none", sums("l 0 0 1", "l 0 0 1 t 1 0 0"), CHECK, "no Grammar 9 Number",
+             ("0 for at most, or 1 for at least", "a weight from 1 to 1000000000000")),
+    Answered("a split of a sum at all that there is", sums("t 1 49", "t 1 100"), CHECK, "no BadSplit 1",
+             ("certificate.txt, line 8: t 1 100", "splits at 100 how many steps of 100 dollars of the coarse lines are bought",
+              "is from 0 to 100", "the greatest step on offer")),
+    Answered("a day in the place of its number", sums("t 1 49", "t 2025-04-15 49"), CHECK, "no Grammar 8 Number",
+             ("from 1 to 1, and no day",)),
+    Answered("a split of a sum without its units", sums("t 1 49", "t 1"), CHECK, "no Grammar 8 Count", ("`t DATE UNITS`",)),
+    Answered("a split of a sum in version 2", packed("nodes 1\nl 1 0 1", "nodes 3\nt 1 49\np\np"), CHECK, "no Grammar 8 Header",
+             ("splits of sums, `t`, are of version 3",)),
+    Answered("a point of several plans", sums("l 0 0 1", "p"), CHECK, "no WeakLeaf 2",
+             ("a point, which is of one plan alone", "line 1 has from 0 to 100 units", "no gap mends it")),
+    Answered("a split beyond the units of a side", cert("nodes 1\nl 1 0 1000000000000", "nodes 5\ns 1 49\ns 1 60\np\np\np"), CHECK,
+             "no BadSplit 2", ("splits line 1 at 60 units", "it has from 0 to 49")),
     Answered("a purchase of a certificate of version 3", weighed("buy 1 50", "buy 1 5"), CHECK, "no NotPermitted 1", ("500.00",)),
     Answered("no version", packed("escrow-certificate 2", "escrow-certificate"), CHECK, "no Grammar 1 Header",
              ("`escrow-certificate 2`", "`vectors COUNT`")),

@@ -2,6 +2,7 @@
 
 from __future__ import annotations
 
+import contextlib
 import os
 import re
 import shutil
@@ -57,6 +58,15 @@ def run_script(folder, *words, **further) -> Ran:
 
 def run_shell(folder, line: str) -> Ran:
     return _run(["bash", "-c", line], folder)
+
+
+def all_of(terminal: int) -> bytes:
+    """All that was said on a terminal, piece by piece. Once its other end is closed and nothing is left, reading it fails."""
+    told = b""
+    with contextlib.suppress(OSError):
+        while piece := os.read(terminal, 65536):
+            told += piece
+    return told
 
 
 class FolderTest(unittest.TestCase):

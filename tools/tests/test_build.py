@@ -124,9 +124,10 @@ class TrialTest(BuildTest):
         """The stamp is taken away before a build begins: what kills it leaves none."""
         self.answers("first")
         self.it.answer_with("second")
-        self.it.hook("kill -9 $(<'%s')" % (self.folder / "process"))
+        process = self.folder / "process"
+        self.it.hook("while [[ ! -s '%s' ]]; do sleep 0.02; done; kill -9 $(<'%s'); sleep 1" % (process, process))
         running = self.it.start("check", "a")
-        (self.folder / "process").write_text(str(running.pid))
+        process.write_text(str(running.pid))
         self.assertEqual(ended(running).status, -signal.SIGKILL)
         self.assertFalse((self.it.trial / "stamp").exists())
         self.it.no_hook()
@@ -206,17 +207,18 @@ class TrialTest(BuildTest):
 
     def test_stopped(self) -> None:
         """What is stopped leaves nothing half made and no process, and the next run begins again."""
+        self.it.hook("sleep 60")
         for number in (signal.SIGTERM, signal.SIGINT, signal.SIGHUP):
             with self.subTest(number=number):
                 before = self.tries()
                 running = self.it.start("check", "a")
                 wait_until(lambda: self.tries() > before)
-                wait_until(lambda: processes_in(self.it.root) != [])
                 ran = stop(running, number)
                 self.assertEqual((ran.status, ran.out), (128 + number, b""), ran.err)
                 self.assertIn("nothing half made is left", ran.err)
                 self.assertEqual(sorted(os.listdir(self.it.trial)), ["lock"])
                 wait_until(lambda: processes_in(self.it.root) == [])
+        self.it.no_hook()
         self.answers("first")
 
     def test_no_kit(self) -> None:

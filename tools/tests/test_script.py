@@ -7,7 +7,7 @@ import pty
 import subprocess
 import unittest
 
-from harness import EXAMPLES, ROOT, FolderTest, run_program, run_script, run_shell
+from harness import EXAMPLES, ROOT, FolderTest, all_of, run_program, run_script, run_shell
 
 WITHOUT_PYTHON = (
     "bash",
@@ -95,7 +95,7 @@ class ScriptTest(FolderTest):
             check=False,
         )
         os.close(terminal)
-        told = os.read(master, 65536).decode()
+        told = all_of(master).decode()
         os.close(master)
         self.assertEqual((done.returncode, done.stdout), (0, (EXAMPLES / "refunding" / "report.txt").read_bytes()))
         self.assertIn("no rival costs less by more than 0.29", told)

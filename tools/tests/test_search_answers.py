@@ -9,7 +9,7 @@ import sys
 import unittest
 from unittest import mock
 
-from harness import NO_RIVAL, ROOT, FolderTest, run_tool
+from harness import NO_RIVAL, ROOT, FolderTest, all_of, run_tool
 
 ISSUE = "settle,2025-01-15\nneed,2025-04-15,5050.00\nrestricted,4.00\n"
 RATES = "terms,1000,100\noffer,2025-04-15,0.00,,10000\n"
@@ -86,7 +86,7 @@ class SearchAnswersTest(FolderTest):
         words = [sys.executable, "-B", str(ROOT / "tools" / "main.py"), "explain", "structure"]
         done = subprocess.run(words + self.words, cwd=self.folder, stdout=subprocess.PIPE, stderr=terminal, check=False)
         os.close(terminal)
-        told = os.read(master, 65536).decode()
+        told = all_of(master).decode()
         os.close(master)
         self.assertEqual((done.returncode, done.stdout), (6, b"budget spent\nnodes 1\nbound 0.00\nbest none\n"))
         self.assertIn(told_there, told)

@@ -8,7 +8,7 @@ import re
 import subprocess
 import unittest
 
-from harness import FolderTest, run_program
+from harness import FolderTest, all_of, run_program
 
 RENEW = "\r\x1b[K"
 LINE = re.compile(r"searching( again)?: \d+ of 10000 nodes, best plan \d+\.\d\d, gap \d+\.\d\d")
@@ -32,11 +32,11 @@ class WatchedTest(FolderTest):
 
     def test_terminal(self) -> None:
         """On a terminal one line is renewed, and gone in the end."""
-        words = [os.environ["ESCROW_PROGRAM"], *self.case(20)]
+        words = [os.environ["ESCROW_PROGRAM"], *self.case(30)]
         master, terminal = pty.openpty()
         done = subprocess.run(words, cwd=self.folder, stdin=subprocess.DEVNULL, stdout=subprocess.PIPE, stderr=terminal, check=False)
         os.close(terminal)
-        told = os.read(master, 65536).decode()
+        told = all_of(master).decode()
         os.close(master)
         self.assertEqual((done.returncode, done.stdout.splitlines()[0]), (6, b"budget spent"))
         begin, *lines, end = told.split(RENEW)

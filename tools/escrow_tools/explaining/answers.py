@@ -7,7 +7,7 @@ from datetime import date
 from typing import Optional
 
 from .. import program
-from ..amounts import GREATEST_YIELD, counted, money, money_for_people, rate_text, read_hundredths, yield_text
+from ..amounts import GREATEST_CENTS, GREATEST_YIELD, counted, money, money_for_people, rate_text, read_hundredths, yield_text
 from ..case_files import CERT, HELD, ISSUE, PRICES, RATES, Refusal
 from ..certificate import Certificate, read_certificate
 from ..commands import read_commands
@@ -20,6 +20,7 @@ from .cautions import Cautions
 from .explanation import shown
 from .files import explain_fault
 from .grammar import explain_grammar
+from .nodes import gap_helps, node_of, told_split, told_weak
 from .purchases import come_later, is_permitted, most_receipts, moved_receipts, purchased_by, up_to
 from .told import explain_refusal
 
@@ -461,18 +462,24 @@ def _yield_above(run: Run, words: list[str]) -> list[str]:
 
 
 def _bad_split(run: Run, words: list[str]) -> list[str]:
-    return [
-        "node %s of the certificate's tree splits a line where it has no numbers on one side, or a line that isn't offered"
-        % words[0],
-        "is it the certificate of these files? %s writes one anew" % run.finder,
+    case = run.read_case()
+    lines = [
+        "node %s of the certificate's tree splits a line or a sum where it has no numbers on one side, or a line that isn't offered"
+        % words[0]
     ]
+    node = node_of(case, run.data.get(CERT), int(words[0]))
+    if node is not None:
+        lines += [node.place(run.names)] + (told_split(node) or [_describe(case, node.split.part)])
+    return lines + ["is it the certificate of these files? %s writes one anew" % run.finder]
 
 
 def _weak_leaf(run: Run, words: list[str]) -> list[str]:
-    return [
-        "node %s of the certificate's tree doesn't bear out that no rival is cheaper by more than the gap" % words[0],
-        "is it the certificate of these files, rates and prices? write a greater `gap`, in cents, or let %s write one anew" % run.finder,
-    ]
+    lines = ["node %s of the certificate's tree doesn't bear out that no rival is cheaper by more than the gap" % words[0]]
+    node = node_of(run.read_case(), run.data.get(CERT), int(words[0]))
+    if node is not None:
+        lines += [node.place(run.names)] + told_weak(node)
+    greater = "write a greater `gap`, in cents, or let %s write one anew" if node is None or gap_helps(node) else "no gap mends it; %s writes one anew"
+    return lines + ["is it the certificate of these files, rates and prices? " + greater % run.finder]
 
 
 def _gap_above(run: Run, words: list[str]) -> list[str]:
@@ -482,10 +489,10 @@ def _gap_above(run: Run, words: list[str]) -> list[str]:
     has = "has no `allowance` row, which is 0" if case.is_whole else "allows less"
     if allowed is not None:
         has = "allows %s" % money_for_people(allowed)
-    return [
-        "all holds but this: the certificate proves a gap of %s, and the issue %s" % (gap, has),
-        "enough is the row: allowance,%s" % gap,
-    ]
+    lines = ["all holds but this: the certificate proves a gap of %s, and the issue %s" % (gap, has)]
+    if certificate is not None and certificate.gap > GREATEST_CENTS:
+        return lines + ["no allowance is that great: %s writes a certificate of a smaller gap" % run.finder]
+    return lines + ["enough is the row: allowance,%s" % gap]
 
 
 def _no_memory(run: Run) -> list[str]:

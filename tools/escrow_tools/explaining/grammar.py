@@ -12,11 +12,12 @@ from .forms import words_of
 
 HEAD = ("portfolio COUNT", "buy LINE UNITS", "gap CENTS")
 TREE = ("nodes COUNT", "s LINE UNITS", "p")
+TREE_OF_SUMS = ("nodes COUNT", "s LINE UNITS", "t DATE UNITS", "p")
 PACKED_HEAD = HEAD + ("vectors COUNT", "v PRICE ..")
 FORMS = {
     1: ("escrow-certificate 1",) + HEAD + TREE + ("l WHOLE MULTIPLIER PRICE ..", "end"),
     2: ("escrow-certificate 2",) + PACKED_HEAD + TREE + ("l WHOLE MULTIPLIER VECTOR PLACE PRICE ..", "end"),
-    3: ("escrow-certificate 3",) + PACKED_HEAD + TREE + ("l WEIGHT MULTIPLIER VECTOR PLACE PRICE ..", "end"),
+    3: ("escrow-certificate 3",) + PACKED_HEAD + TREE_OF_SUMS + ("l WEIGHT MULTIPLIER VECTOR PLACE PRICE ..", "l .. t DATE SIDE WEIGHT ..", "end"),
 }
 MEANINGS = {
     "Truncated": "the text ends before this line does: the last line, `end`, has a line end too",
@@ -24,8 +25,15 @@ MEANINGS = {
     "Count": "the line has another number of words than it should, or the tree has more or fewer nodes than the `nodes` line says",
     "Header": "this line can't stand here: the lines are, in this order, %s",
     "Number": "a word of this line isn't a number of its range: plain digits, no leading zero, point, comma or sign",
-    "Order": "lines that are bought rise from one `buy` to the next, the prices of a leaf never rise, and the places of its changes do",
+    "Order": "lines that are bought rise from one `buy` to the next, the prices of a leaf never rise, and the places of its changes do, "
+    "and so do the need dates of the sums that it weighs",
 }
+
+
+SUM_RULE = (
+    "behind a `t` stand 1 to 64 weights of sums, three words for each: the number of a need date; 0 for at most, or 1 for at least; and a "
+    "weight from 1 to 1000000000000, which stands for 1"
+)
 
 
 def explain_grammar(data: Optional[bytes], names: dict, number: int, kind: str, needs: Optional[dict]) -> list[str]:
@@ -73,13 +81,10 @@ def _advice(data: bytes, names: dict, text: str, kind: str, needs: Optional[dict
     words = text.split(" ")
     if words[0] == "v" and kind == "Count":
         return _counted_prices(names, "behind `v`", len(words) - 1, needs)
-    if words[0] == "l" and kind == "Count":
-        version = meant_version(data)
-        if version > 1:
-            weight = "WHOLE" if version == 2 else "WEIGHT"
-            rule = "behind `l`, %s, MULTIPLIER and VECTOR stand pairs of a place and a price, and none where no price changes"
-            return [rule % weight]
-        return _counted_prices(names, "behind `l`, WHOLE and MULTIPLIER", max(len(words) - 3, 0), needs)
+    if words[0] in ("l", "t") and kind in ("Count", "Number", "Header"):
+        advice = _node_advice(meant_version(data), words, kind, names, needs)
+        if advice:
+            return advice
     if text != text.strip() or "  " in text or "\t" in text:
         return ["words are parted by one blank, and none stands before or behind them"]
     if words[0] == "buy" and kind == "Number":
@@ -91,6 +96,39 @@ def _advice(data: bytes, names: dict, text: str, kind: str, needs: Optional[dict
     if kind == "Truncated":
         return ["add a line end behind the last line"]
     return []
+
+
+def _node_advice(version: int, words: list[str], kind: str, names: dict, needs: Optional[dict]) -> list[str]:
+    """What a leaf or a split of a sum should have; nothing where that doesn't help."""
+    if words[0] == "t":
+        return _sum_advice(version, words, kind, needs)
+    if kind == "Count" and version == 1:
+        return _counted_prices(names, "behind `l`, WHOLE and MULTIPLIER", max(len(words) - 3, 0), needs)
+    if kind == "Count":
+        rule = "behind `l`, %s, MULTIPLIER and VECTOR stand pairs of a place and a price, and none where no price changes"
+        return [rule % "WHOLE"] if version == 2 else [rule % "WEIGHT", SUM_RULE]
+    if kind == "Number" and version == 2 and len(words) > 1 and words[1] not in ("0", "1"):
+        return ["in version 2 WHOLE is 0 or 1; a weight of the cost by a number is of version 3: `escrow-certificate 3`"]
+    if kind == "Number" and version == 3:
+        return [
+            "WEIGHT and MULTIPLIER are from 0 to 1000000000000, which stands for 1; VECTOR is the number of a `v` line, or 0 for stairs; "
+            "a place is a need date, from 1%s; and a price is another than would stand there without it" % _up_to(needs)
+        ] + ([SUM_RULE] if "t" in words else [])
+    return []
+
+
+def _sum_advice(version: int, words: list[str], kind: str, needs: Optional[dict]) -> list[str]:
+    """What a split of a sum should have."""
+    if kind == "Header":
+        return ["splits of sums, `t`, are of version 3: `escrow-certificate 3`"] if version < 3 else []
+    if kind == "Number":
+        return ["`t DATE UNITS`: DATE is the number of a need date, from 1%s, and no day" % _up_to(needs)]
+    has = "`t DATE UNITS`: a split of a sum has the number of a need date and a number of units"
+    return [has] if len(words) != 3 else []
+
+
+def _up_to(needs: Optional[dict]) -> str:
+    return "" if needs is None else " to %d" % len(needs)
 
 
 def _counted_prices(names: dict, place: str, prices: int, needs: Optional[dict]) -> list[str]:
