@@ -12,6 +12,7 @@ from pathlib import Path
 from unittest import mock
 
 from harness import ROOT, FolderTest, run_program
+from stand_in import write_command
 from escrow_tools import built
 from escrow_tools.crate_graph import read_edges
 from escrow_tools.documents.command import RUN, all_documents, faults_of
@@ -24,6 +25,7 @@ from escrow_tools.reading.command import is_declared
 from escrow_tools.reading.library import Library
 from escrow_tools.timed_cases import CASES
 from escrow_tools.timed_cases import run as run_timed_cases
+from escrow_tools.timed_pairs import run as run_timed_pairs
 
 PAGE = """\
 # A heading. Of two
@@ -150,6 +152,29 @@ class TimedCasesTest(FolderTest):
         self.assertEqual(ran.lines[:2], ["yes", "cost 12288000.00"])
         with self.assertRaises(SystemExit), contextlib.redirect_stderr(io.StringIO()):
             run_timed_cases([str(folder), "leaf"])
+
+    def test_leaves(self) -> None:
+        """Cases with certificates of one leaf and of 5,000: all are accepted."""
+        folder = self.folder / "cases"
+        self.assertEqual(run_timed_cases([str(folder), "bonds", "mixed"]), 0)
+        for case in ("bonds", "mixed"):
+            for certificate in ("certificate.txt", "leaves.txt"):
+                with self.subTest(case, certificate=certificate):
+                    ran = run_program(folder / case, "check", "issue.csv", "rates.csv", "prices.csv", certificate)
+                    self.assertEqual((ran.status, ran.lines[0]), (0, "yes"))
+
+    def test_pairs(self) -> None:
+        """Two programs are run in turn; of those that answer differently no time is said."""
+        for name, line in (("one", "echo yes"), ("same", "echo yes"), ("other", "echo no; exit 1")):
+            write_command(self.folder / name, "#!/bin/sh\n%s\n" % line)
+        words = [str(self.folder / "one"), str(self.folder / "same"), str(self.folder), "--pairs", "3"]
+        with contextlib.redirect_stdout(io.StringIO()) as said:
+            self.assertEqual(run_timed_pairs(words), 0)
+        self.assertRegex(said.getvalue(), r"^\d+\.\d\d ms, \d+\.\d\d ms, ratio \d+\.\d{3}\n$")
+        words[1] = str(self.folder / "other")
+        with self.assertRaises(SystemExit) as ended, contextlib.redirect_stderr(io.StringIO()) as said:
+            run_timed_pairs(words)
+        self.assertEqual((ended.exception.code, said.getvalue()), (1, "the programs answer differently\n"))
 
     def test_rates(self) -> None:
         self.assertEqual(CASES["lines"]()["rates.csv"].splitlines()[1:6:4], ["rate,2026-01-30,2027-01-15,3.50", "rate,2030-01-16,2031-01-15,3.62"])
