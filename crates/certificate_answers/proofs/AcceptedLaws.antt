@@ -297,7 +297,7 @@ accepted_holding files cert case bytes held gives says keeps done =
     }
 
 -- whether holdings are given or not
-beside-accepted : (files : InputFiles) (cert : List ℕ) (case judged : CaseContents) (bytes : Option (List ℕ)) → GiveCase files case → judged_case inquiry.Held bytes case ≡ Ok judged → KeepsLimits judged
+beside-accepted : (files : InputFiles) (cert : List ℕ) (case judged : CaseContents) (bytes : Option (List ℕ)) → GiveCase files case → judged_case inquiry.Check bytes case ≡ Ok judged → KeepsLimits judged
     → (certificate_answer judged cert).status ≡ status.Done → AcceptedBeside bytes files cert (certificate_answer judged cert).text
 beside-accepted files cert case judged None gives is keeps done = accepted files cert judged (subst (GiveCase files) (one-case case judged is) gives) keeps done
 beside-accepted files cert case judged (Some bytes) gives is keeps done =
@@ -308,10 +308,9 @@ beside-accepted files cert case judged (Some bytes) gives is keeps done =
 -- by what is asked
 pub means_yes : (asked : Inquiry) (files : InputFiles) (cert : List ℕ) (judged : CaseContents) → IsJudged asked files judged → (answer_for asked files judged cert).status ≡ status.Done
     → MeansYes asked files cert (answer_for asked files judged cert).text
-means_yes inquiry.Check files cert judged own done = accepted files cert judged (subst (GiveCase files) (one-case own.case judged own.is) own.given.0) (own.book, own.terms) done
+means_yes inquiry.Check files cert judged own done = beside-accepted files cert own.case judged files.held own.given.0 own.is (own.book, own.terms) done
 means_yes inquiry.Savings files cert judged own done = saved files cert judged (subst (GiveWorkedCase files) (one-case own.case judged own.is) own.given) (own.book, own.terms) done
 means_yes inquiry.Roll files cert judged own done = rolled files cert judged (subst (GiveCase files) (one-case own.case judged own.is) own.given.0) (own.book, own.terms) done
-means_yes inquiry.Held files cert judged own done = beside-accepted files cert own.case judged files.held own.given.0 own.is (own.book, own.terms) done
 means_yes (inquiry.AtCap cap) files cert judged own done =
     subst (λ (c : CaseContents). KeepsLimits c → (certificate_answer c cert).status ≡ status.Done → AcceptedAt cap files cert (certificate_answer c cert).text) (one-case (case_at cap own.case) judged own.is)
     (accepted_at cap files cert own.case own.given.0) (own.book, own.terms) done
@@ -378,7 +377,7 @@ accepted_text_holding files cert case bytes held (gives, rests) says keeps done 
       unopposed = none-where_done (yes_text kept) kept cert keeps done;
     }
 
-text-beside : (files : InputFiles) (cert : List ℕ) (case judged : CaseContents) (bytes : Option (List ℕ)) → GiveWorkedCase files case → judged_case inquiry.Held bytes case ≡ Ok judged → KeepsLimits judged
+text-beside : (files : InputFiles) (cert : List ℕ) (case judged : CaseContents) (bytes : Option (List ℕ)) → GiveWorkedCase files case → judged_case inquiry.Check bytes case ≡ Ok judged → KeepsLimits judged
     → (certificate_answer judged cert).status ≡ status.Done → IsAcceptedTextBeside bytes files cert
 text-beside files cert case judged None gives is keeps done = accepted_text files cert judged (subst (GiveWorkedCase files) (one-case case judged is) gives) keeps done
 text-beside files cert case judged (Some bytes) gives is keeps done =
@@ -387,7 +386,7 @@ text-beside files cert case judged (Some bytes) gives is keeps done =
     (accepted_text_holding files cert case bytes own.held gives own.says) keeps done
 
 -- of the case that is searched
-pub searched_text : (files : InputFiles) (cert : List ℕ) (judged : CaseContents) → IsJudged inquiry.Held files judged → (certificate_answer judged cert).status ≡ status.Done → IsAcceptedTextBeside files.held files cert
+pub searched_text : (files : InputFiles) (cert : List ℕ) (judged : CaseContents) → IsJudged inquiry.Check files judged → (certificate_answer judged cert).status ≡ status.Done → IsAcceptedTextBeside files.held files cert
 searched_text files cert judged own done = text-beside files cert own.case judged files.held own.given own.is (own.book, own.terms) done
 
 -- `yes` exactly where no reason stands, of files that give the case by which it is judged

@@ -7,7 +7,7 @@ use Rattle.escrow_desk.specs.declared.refusal.RefusalKind.TheVariants as too_lon
 use Rattle.row_fields.specs.RowForm.{refusal_of}
 use Rattle.certificate_answers.specs.InputFiles.{InputFiles, FileNames, first_too_long, inputs_of}
 use Rattle.case_file.specs.Case.{CaseContents}
-use Rattle.certificate_answers.specs.Answer.{Answer, Asking, CapWords, answer_for, answer_to, asked_answer, asking_of, cap_names, case_answer, check_cap_words, check_held_names, check_names, judged_of, refused, roll_names, savings_names, structure_names, usage, usage_text}
+use Rattle.certificate_answers.specs.Answer.{Answer, Asking, answer_for, asked_answer, case_answer, judged_of, refused}
 use Rattle.certificate_answers.specs.Accepted.{Accepted}
 use Rattle.certificate_answers.specs.AtCap.{AcceptedAt}
 use Rattle.certificate_answers.specs.Holding.{AcceptedBeside}

@@ -12,7 +12,7 @@ use Rattle.row_fields.specs.RowForm.{refusal_of}
 use Rattle.case_file.specs.Case.{CaseContents}
 use Rattle.escrow_desk.specs.declared.refusal.Refusal.{Refusal}
 use Rattle.certificate_answers.specs.InputFiles.{InputFiles, FileNames, are_holdings_long, first_too_long, inputs_of, three_files}
-use Rattle.certificate_answers.specs.Answer.{Answer, Asking, asked_answer, asking_of, files_answer, judged_of, refused}
+use Rattle.certificate_answers.specs.Answer.{Answer, Asking, asked_answer, files_answer, judged_of, refused}
 use Rattle.certificate_answers.specs.Accepted.{YesExactly}
 use Rattle.certificate_answers.specs.Meaning.{OfNamedFiles}
 use Rattle.certificate_answers.specs.Stopping.{is_reached}

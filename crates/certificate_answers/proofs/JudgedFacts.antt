@@ -35,7 +35,6 @@ pub kept_for : (asked : Inquiry) (files : InputFiles) (case judged : CaseContent
 kept_for inquiry.Check files case judged kept is = tt
 kept_for inquiry.Savings files case judged kept is = subst (λ (c : CaseContents). IsKept (rows_of files.issue) (rows_of files.rates) (rows_of files.prices) c) (one-case case judged is) kept
 kept_for inquiry.Roll files case judged kept is = subst (λ (c : CaseContents). IsKept (rows_of files.issue) (rows_of files.rates) (rows_of files.prices) c) (one-case case judged is) kept
-kept_for inquiry.Held files case judged kept is = tt
 kept_for (inquiry.AtCap cap) files case judged kept is = tt
 
 -- the case beside holdings comes of the holdings that their file says

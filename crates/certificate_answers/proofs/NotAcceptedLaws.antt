@@ -90,7 +90,7 @@ not_accepted_holding files cert case bytes held gives says keeps denied =
     let no = is_denied (yes_text kept) kept cert keeps denied in
     record { kept = kept; gives = gives_holding files case bytes held gives says; why = no.why; stands = no.stands; said = no.said }
 
-beside-denied : (files : InputFiles) (cert : List ℕ) (case judged : CaseContents) (bytes : Option (List ℕ)) → GiveCase files case → judged_case inquiry.Held bytes case ≡ Ok judged → KeepsLimits judged
+beside-denied : (files : InputFiles) (cert : List ℕ) (case judged : CaseContents) (bytes : Option (List ℕ)) → GiveCase files case → judged_case inquiry.Check bytes case ≡ Ok judged → KeepsLimits judged
     → (certificate_answer judged cert).status ≡ status.No → NotAcceptedBeside bytes files cert (certificate_answer judged cert).text
 beside-denied files cert case judged None gives is keeps denied = not_accepted (yes_text judged) files cert judged (subst (GiveCase files) (one-case case judged is) gives) keeps denied
 beside-denied files cert case judged (Some bytes) gives is keeps denied =
@@ -101,10 +101,9 @@ beside-denied files cert case judged (Some bytes) gives is keeps denied =
 -- by what is asked, of the case by which the certificate is judged
 pub means_no : (asked : Inquiry) (files : InputFiles) (cert : List ℕ) (judged : CaseContents) → IsJudged asked files judged → (answer_for asked files judged cert).status ≡ status.No
     → MeansNo asked files cert (answer_for asked files judged cert).text
-means_no inquiry.Check files cert judged own denied = not_accepted (portfolio_text inquiry.Check files judged) files cert judged (subst (GiveCase files) (one-case own.case judged own.is) own.given.0) (own.book, own.terms) denied
+means_no inquiry.Check files cert judged own denied = beside-denied files cert own.case judged files.held own.given.0 own.is (own.book, own.terms) denied
 means_no inquiry.Savings files cert judged own denied = not_accepted (portfolio_text inquiry.Savings files judged) files cert judged (subst (GiveCase files) (one-case own.case judged own.is) own.given.0) (own.book, own.terms) denied
 means_no inquiry.Roll files cert judged own denied = not_accepted (portfolio_text inquiry.Roll files judged) files cert judged (subst (GiveCase files) (one-case own.case judged own.is) own.given.0) (own.book, own.terms) denied
-means_no inquiry.Held files cert judged own denied = beside-denied files cert own.case judged files.held own.given.0 own.is (own.book, own.terms) denied
 means_no (inquiry.AtCap cap) files cert judged own denied =
     subst (λ (c : CaseContents). KeepsLimits c → (certificate_answer c cert).status ≡ status.No → NotAcceptedAt cap files cert (certificate_answer c cert).text) (one-case (case_at cap own.case) judged own.is)
     (not_accepted_at cap files cert own.case own.given.0) (own.book, own.terms) denied

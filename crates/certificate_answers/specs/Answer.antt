@@ -1,8 +1,5 @@
 -- What `check`, `check-cap`, `check-held`, `savings` and `roll` answer: a status and the text that is said. The texts are this project's own.
-use Rattle.std.specs.Prelude.{ℕ, ◌%◌, ◌==◌, nat_lt, nat_eq, if◌then◌else◌, List, [], ◌∷◌, ◌++◌, length, Option, Some, None, Result, Ok, Err, is_ok, codes, decimal, option_map}
-use Rattle.std.specs.Bool.{then_some}
-use Rattle.std.specs.Option.{option_or}
-use lib.Pointwise.{pointwise}
+use Rattle.std.specs.Prelude.{ℕ, nat_lt, if◌then◌else◌, List, [], ◌∷◌, ◌++◌, length, Option, Some, None, Result, Ok, Err, is_ok, codes, decimal, option_map}
 use Rattle.escrow_desk.specs.Content.{Content, file_of}
 use Rattle.escrow_desk.specs.Rows.{rows_of}
 use Rattle.escrow_desk.specs.declared.limits.TheConstants.{CERTIFICATE_LIMIT}
@@ -12,10 +9,7 @@ use Rattle.escrow_desk.specs.declared.refusal.Refusal.{Refusal}
 use Rattle.escrow_desk.specs.declared.refusal.RefusalKind.{RefusalKind}
 use Rattle.escrow_desk.specs.declared.refusal.RefusalKind.TheVariants as kind
 use Rattle.escrow_units.specs.DateText.{day_text}
-use Rattle.escrow_units.specs.NumberText.{rate_of}
-use Rattle.escrow_units.specs.declared.amount.Rate.{Rate}
 use Rattle.escrow_units.specs.declared.security.Flow.{Flow}
-use Rattle.escrow_units.specs.declared.fault.NumberFault.{NumberFault}
 use Rattle.row_fields.specs.RowForm.{Row, refusal_of}
 use Rattle.bound_certificate.specs.declared.fault.FaultKind.{FaultKind}
 use Rattle.bound_certificate.specs.declared.fault.FaultKind.TheVariants as fault
@@ -80,7 +74,6 @@ abbrev pub portfolio_text : Inquiry → InputFiles → CaseContents → Portfoli
 portfolio_text inquiry.Check files case portfolio = yes_text case portfolio
 portfolio_text inquiry.Savings files case portfolio = saved_text (issue_of (rows_of files.issue)) case portfolio.plan
 portfolio_text inquiry.Roll files case portfolio = rolled_text (stated_by (rate_file_of (rows_of files.rates))) case portfolio.plan
-portfolio_text inquiry.Held files case portfolio = yes_text case portfolio
 portfolio_text (inquiry.AtCap cap) files case portfolio = yes_text case portfolio
 
 -- the answer to a verdict, with these words for a portfolio
@@ -160,12 +153,11 @@ abbrev pub beside : Option (List Row) → CaseContents → Result CaseContents R
 beside None case = Ok case
 beside (Some rows) case = held_case_by case (held_of case.book.days.settle rows)
 
--- the case by which a certificate is judged: that of the input files, that one beside the holdings, or that one at a cap
+-- the case by which a certificate is judged: that of the input files, beside the holdings where `check` is given them, or at a cap
 abbrev pub judged_case : Inquiry → Option (List ℕ) → CaseContents → Result CaseContents Refusal
-judged_case inquiry.Check held case = Ok case
+judged_case inquiry.Check held case = beside (option_map rows_of held) case
 judged_case inquiry.Savings held case = Ok case
 judged_case inquiry.Roll held case = Ok case
-judged_case inquiry.Held held case = beside (option_map rows_of held) case
 judged_case (inquiry.AtCap cap) held case = Ok (case_at cap case)
 
 -- the same, unless a file was refused before
@@ -177,9 +169,9 @@ judged_by inquiry held (Ok case) = judged_case inquiry held case
 abbrev pub judged_of : Inquiry → InputFiles → Result CaseContents Refusal
 judged_of inquiry texts = judged_by inquiry texts.held (case_of texts)
 
--- the case that is searched: that of the input files, beside the holdings where they are given
+-- the case that is searched is the one by which `check` judges: that of the input files, beside the holdings where they are given
 abbrev pub searched_of : InputFiles → Result CaseContents Refusal
-searched_of texts = judged_of inquiry.Held texts
+searched_of texts = judged_of inquiry.Check texts
 
 -- the answer to the bytes of a certificate for the case by which it is judged
 abbrev pub answer_for : Inquiry → InputFiles → CaseContents → List ℕ → Answer
@@ -205,98 +197,3 @@ asked_answer content asking = do
   texts ← inputs_of content asking.names
   cert ← if is_ok (judged_of asking.inquiry texts) then file_of content asking.names.cert else Some []
   Some (files_answer asking.inquiry texts cert)
-
--- the words of each command
-abbrev pub usage_words : List ℕ
-usage_words =
-    codes "structure ISSUE RATES PRICES CERT | check ISSUE RATES PRICES CERT | make NUMBER ISSUE RATES PRICES"
-    ++ codes " | cap ISSUE RATES PRICES CERT | check-cap RATE ISSUE RATES PRICES CERT | roll ISSUE RATES PRICES CERT"
-    ++ codes " | structure-held ISSUE RATES PRICES HELD CERT | check-held ISSUE RATES PRICES HELD CERT"
-    ++ codes " | savings ISSUE RATES PRICES CERT"
-
--- the line that says how the program is used
-abbrev pub usage_text : List ℕ
-usage_text = text_line (codes "usage: ") usage_words
-
--- the status `Usage`, and that line
-abbrev pub usage : Answer
-usage = record { status = status.Usage; text = usage_text }
-
--- the names that words give, by their places, where the first is this command
-abbrev pub names_behind : List ℕ → List (List ℕ) → Option FileNames
-names_behind command (word ∷ issue ∷ rates ∷ prices ∷ cert ∷ []) =
-    then_some (pointwise nat_eq word command) (record { issue = issue; rates = rates; prices = prices; held = None; cert = cert })
-names_behind command words = None
-
--- the same with that of the holdings
-abbrev pub names_with_holdings : List ℕ → List (List ℕ) → Option FileNames
-names_with_holdings command (word ∷ issue ∷ rates ∷ prices ∷ held ∷ cert ∷ []) =
-    then_some (pointwise nat_eq word command) (record { issue = issue; rates = rates; prices = prices; held = Some held; cert = cert })
-names_with_holdings command words = None
-
--- the names that the words `check ISSUE RATES PRICES CERT` give
-abbrev pub check_names : List (List ℕ) → Option FileNames
-check_names words = names_behind (codes "check") words
-
--- the names that the words `check-held ISSUE RATES PRICES HELD CERT` give
-abbrev pub check_held_names : List (List ℕ) → Option FileNames
-check_held_names words = names_with_holdings (codes "check-held") words
-
--- the names that the words `structure ISSUE RATES PRICES CERT` or `structure-held ISSUE RATES PRICES HELD CERT` give
-abbrev pub structure_names : List (List ℕ) → Option FileNames
-structure_names words = option_or (names_behind (codes "structure") words) (names_with_holdings (codes "structure-held") words)
-
--- the names that the words `savings ISSUE RATES PRICES CERT` give
-abbrev pub savings_names : List (List ℕ) → Option FileNames
-savings_names words = names_behind (codes "savings") words
-
--- the names that the words `roll ISSUE RATES PRICES CERT` give
-abbrev pub roll_names : List (List ℕ) → Option FileNames
-roll_names words = names_behind (codes "roll") words
-
--- the names that the words `cap ISSUE RATES PRICES CERT` give
-abbrev pub cap_names : List (List ℕ) → Option FileNames
-cap_names words = names_behind (codes "cap") words
-
--- the cap that a word is: a rate in percent, in whole hundredths, up to 30
-abbrev pub cap_of : Result Rate NumberFault → Option Rate
-cap_of (Ok rate) = then_some (rate.0 % 10 == 0) rate
-cap_of (Err fault) = None
-
--- a cap, and the names of files
-pub record CapWords : Type 0 where
-  pub cap : Rate
-  pub names : FileNames
-
--- those that the words `check-cap RATE ISSUE RATES PRICES CERT` give
-abbrev pub check_cap_words : List (List ℕ) → Option CapWords
-check_cap_words (word ∷ rate ∷ issue ∷ rates ∷ prices ∷ cert ∷ []) =
-    if pointwise nat_eq word (codes "check-cap")
-    then option_map (λ cap. record { cap = cap; names = record { issue = issue; rates = rates; prices = prices; held = None; cert = cert } }) (cap_of (rate_of rate))
-    else None
-check_cap_words words = None
-
--- what words ask of a certificate
-abbrev pub asks : Inquiry → Option FileNames → Option Asking
-asks inquiry names = option_map (λ names. record { inquiry = inquiry; names = names }) names
-
--- what `check-cap` asks, if the words are its own
-abbrev pub asks_at_cap : Option CapWords → Option Asking
-asks_at_cap found = option_map (λ capped. record { inquiry = inquiry.AtCap capped.cap; names = capped.names }) found
-
--- what words ask of a certificate, if they are those of one of the five commands that ask
-abbrev pub asking_of : List (List ℕ) → Option Asking
-asking_of words =
-    option_or (asks inquiry.Check (check_names words))
-    (option_or (asks inquiry.Savings (savings_names words))
-    (option_or (asks inquiry.Roll (roll_names words))
-    (option_or (asks inquiry.Held (check_held_names words)) (asks_at_cap (check_cap_words words)))))
-
--- how the program is used where nothing is asked, or else the answer; None where a file that is read isn't there
-abbrev pub answer_to_asking : Content → Option Asking → Option Answer
-answer_to_asking content None = Some usage
-answer_to_asking content (Some asking) = asked_answer content asking
-
--- the answer to words that aren't those of `structure`, `cap` or `make`; None where a file that is read isn't there
-abbrev pub answer_to : List (List ℕ) → Content → Option Answer
-answer_to words content = answer_to_asking content (asking_of words)

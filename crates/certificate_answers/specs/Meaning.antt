@@ -1,7 +1,6 @@
 -- What the answers to four files mean, by what is asked.
 use Rattle.std.specs.Prelude.{◌≡◌, ℕ, List, Some, IfSome, IsSomeAnd, MatchOption}
 use Rattle.escrow_desk.specs.Content.{Content, Told, file_of}
-use Rattle.certificate_answers.specs.Accepted.{Accepted}
 use Rattle.certificate_answers.specs.AtCap.{AcceptedAt, NotAcceptedAt}
 use Rattle.certificate_answers.specs.Holding.{AcceptedBeside, NotAcceptedBeside}
 use Rattle.certificate_answers.specs.InputFiles.{InputFiles, FileNames, holdings_in}
@@ -31,16 +30,14 @@ OfNamedFiles Holds told names =
 
 -- what an answer of `Done` means, of the bytes of four files and what was said
 abbrev pub MeansYes : Inquiry → InputFiles → List ℕ → List ℕ → Type 0
-MeansYes inquiry.Check = Accepted
+MeansYes inquiry.Check = λ files. AcceptedBeside files.held files
 MeansYes inquiry.Savings = Saved
 MeansYes inquiry.Roll = Rolled
-MeansYes inquiry.Held = λ files. AcceptedBeside files.held files
 MeansYes (inquiry.AtCap cap) = AcceptedAt cap
 
 -- what an answer of `No` means
 abbrev pub MeansNo : Inquiry → InputFiles → List ℕ → List ℕ → Type 0
-MeansNo inquiry.Check = NotAccepted
+MeansNo inquiry.Check = λ files. NotAcceptedBeside files.held files
 MeansNo inquiry.Savings = NotAccepted
 MeansNo inquiry.Roll = NotAccepted
-MeansNo inquiry.Held = λ files. NotAcceptedBeside files.held files
 MeansNo (inquiry.AtCap cap) = NotAcceptedAt cap

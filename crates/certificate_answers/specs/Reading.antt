@@ -125,7 +125,6 @@ abbrev pub IsKeptFor : Inquiry → InputFiles → CaseContents → Type 0
 IsKeptFor inquiry.Check files case = Unit {0}
 IsKeptFor inquiry.Savings files case = IsKept (rows_of files.issue) (rows_of files.rates) (rows_of files.prices) case
 IsKeptFor inquiry.Roll files case = IsKept (rows_of files.issue) (rows_of files.rates) (rows_of files.prices) case
-IsKeptFor inquiry.Held files case = Unit {0}
 IsKeptFor (inquiry.AtCap cap) files case = Unit {0}
 
 -- a portfolio that is accepted is permitted and meets the needs, whether the desk tells or not

@@ -237,7 +237,7 @@ fn portfolio_text(
     ensures { IfOk result (λ text. text.items ≡ portfolio_text_of inquiry (files_view files.now) (case_view case.now) portfolio.now) }
 {
     match inquiry {
-        Inquiry::Check | Inquiry::Held | Inquiry::AtCap(_) => yes_text(alloc, case, portfolio),
+        Inquiry::Check | Inquiry::AtCap(_) => yes_text(alloc, case, portfolio),
         Inquiry::Savings => saved_text(alloc, files, case, &portfolio.plan),
         Inquiry::Roll => rolled_text(alloc, files, case, &portfolio.plan),
     }

@@ -70,11 +70,11 @@ fn judged_by(
     // There is one case at each cap.
     cap_laws();
     match inquiry {
-        Inquiry::Check | Inquiry::Savings | Inquiry::Roll => Ok(case),
-        Inquiry::Held => match &files.held {
+        Inquiry::Check => match &files.held {
             Some(bytes) => beside_file(alloc, &case, bytes.as_slice()),
             None => Ok(case),
         },
+        Inquiry::Savings | Inquiry::Roll => Ok(case),
         Inquiry::AtCap(cap) => Ok(at_cap(alloc, &case, cap)?),
     }
 }
@@ -84,7 +84,7 @@ fn judged_by(
 ///
 /// # Errors
 ///
-/// `Refused` with the first refusal of the input files' rows, or else of the holdings' rows where they are asked for; and `NoMemory`.
+/// `Refused` with the first refusal of the input files' rows, or else of the holdings' rows where `check` goes by them; and `NoMemory`.
 pub fn judged_case(alloc: Global, inquiry: Inquiry, files: &InputFiles) -> Result<Case, CaseError>
     requires { AreWithin (files_view files.now) }
     ensures case { CaseAnswers result (judged_of inquiry (files_view files.now)) }

@@ -1,27 +1,26 @@
--- What is so of files, said of the words that ask of them.
-use Rattle.std.proofs.Common.{◌≡◌, ◌∙◌, ℕ, List, Some, None, sym, subst}
-use Rattle.escrow_desk.specs.Content.{Told}
+-- What was said to what is asked of named files.
+use Rattle.std.proofs.Common.{◌≡◌, ◌∙◌, ℕ, List, Some, None, refl, sym, subst}
+use Rattle.escrow_desk.specs.Content.{Told, SaidAll, told_map}
 use Rattle.certificate_answers.specs.InputFiles.{InputFiles}
-use Rattle.certificate_answers.specs.Answer.{Asking, asked_answer, asking_of, files_answer}
+use Rattle.certificate_answers.specs.Answer.{Answer, Asking, asked_answer, files_answer}
 use Rattle.certificate_answers.specs.Meaning.{OfNamedFiles}
-use Rattle.certificate_answers.specs.declared.inquiry.Inquiry.{Inquiry}
+use Rattle.certificate_answers.specs.Reading.{FilesAnswer}
 use Rattle.certificate_answers.specs.declared.status.Status.{Status}
 use Rattle.certificate_answers.proofs.ExactLaws.{asked-there, same-content, some-same}
-use Rattle.escrow_top.specs.Ending.{AskedAnswers, IsAnswerTo, OfFiles}
+use Rattle.escrow_top.specs.Effects.{saying, with_effects}
+use Rattle.escrow_top.specs.Ending.{IsAnswerTo}
 
-pub bytes-answered : (told told_new : Told) (asking : Asking) (reached : Status) → AskedAnswers told asking reached told_new → OfNamedFiles (IsAnswerTo told reached told_new asking.inquiry) told asking.names
-bytes-answered None told_new asking reached said = λ content files cert tells there is. absurd (cc)
-bytes-answered (Some found) told_new asking reached said = λ content files cert tells there is.
+-- an answer alone was said
+pub all-said : (told new : Told) (answer : Answer) → new ≡ told_map (with_effects (saying answer).effects) told → SaidAll told answer.text new
+all-said None new answer done = done
+all-said (Some content) new answer done = done
+
+-- where it is the answer of files that are there, it is the one to their bytes
+pub bytes-answered : (told new : Told) (asking : Asking) (answer : Answer) (reached : Status) → FilesAnswer told asking answer → reached ≡ answer.status → SaidAll told answer.text new
+    → OfNamedFiles (IsAnswerTo told reached new asking.inquiry) told asking.names
+bytes-answered None new asking answer reached is ends said = λ content files cert tells there has. absurd (cc)
+bytes-answered (Some found) new asking answer reached is ends said = λ content files cert tells there has.
     let same : found ≡ content = same-content found content tells in
-    let is_asked : asked_answer found asking ≡ Some (files_answer asking.inquiry files cert) = rw same (asked-there content asking files cert there is) in
-    rw is_asked at said
-
--- the words that ask
-pub asked_exactly : (Holds : Inquiry → InputFiles → List ℕ → Type 0) (told : Told) (words : List (List ℕ)) (asking : Asking) → asking_of words ≡ Some asking → OfNamedFiles (Holds asking.inquiry) told asking.names → OfFiles Holds told words
-asked_exactly Holds told words asking is holds = λ other is_other.
-    let same : asking ≡ other = some-same asking other (sym is ∙ is_other) in
-    subst (λ (a : Asking). OfNamedFiles (Holds a.inquiry) told a.names) same holds
-
--- other words ask nothing
-pub none_exactly : (Holds : Inquiry → InputFiles → List ℕ → Type 0) (told : Told) (words : List (List ℕ)) → asking_of words ≡ None → OfFiles Holds told words
-none_exactly Holds told words none = λ asking is. absurd (let clash : None ≡ Some asking = sym none ∙ is in cc)
+    let is_asked : asked_answer found asking ≡ Some (files_answer asking.inquiry files cert) = rw same (asked-there content asking files cert there has) in
+    let own : answer ≡ files_answer asking.inquiry files cert = some-same answer (files_answer asking.inquiry files cert) (sym is ∙ is_asked) in
+    subst (λ (a : Answer). (reached ≡ a.status) × SaidAll (Some found) a.text new) own (ends, said)

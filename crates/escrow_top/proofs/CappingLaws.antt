@@ -1,7 +1,7 @@
 -- What `cap` puts out, proved.
 use Rattle.std.proofs.Common.{◌≡◌, ◌∙◌, ℕ, List, length, Option, Some, None, Ok, Err, refl, subst, sym, ap, inl, inr, arith}
-use Rattle.std.specs.Prelude.{IsSomeAnd, Result}
-use Rattle.escrow_desk.specs.Content.{Content, SaidPart, Told, with_said}
+use Rattle.std.specs.Prelude.{IsSomeAnd, IsTrue, Result}
+use Rattle.escrow_desk.specs.Content.{Content, Told}
 use Rattle.escrow_desk.specs.declared.refusal.Refusal.{Refusal}
 use Rattle.escrow_units.specs.declared.amount.Rate.{Rate}
 use Rattle.bound_certificate.specs.Versions.{IsPackedFormOf}
@@ -29,22 +29,29 @@ use Rattle.rate_cap.specs.CaseAt.{CasesAtCapsAreOne, IsAtCap, IsTopOf, case_at, 
 use Rattle.rate_cap.specs.Search.{zero_cap}
 use Rattle.verification_report.specs.Report.{figures_of}
 use Rattle.certificate_answers.proofs.CapFacts.{book-at, terms-at}
-use Rattle.certificate_answers.specs.Answer.{Answer, case_of, certificate_answer, yes_text}
-use Rattle.escrow_top.specs.Capping.{AreCapTexts, Caps, CapsPart, HasObstacle, IsCapCertificate, IsCapDraft, IsCapDraftFor, IsCapDraftOf, IsCapEnded, IsCapPartPut, IsCapPut, IsNextKnown, IsObstacle, IsUncapped, Obstructs, PutsOutCap, PutsOutCapPart, cap_text, cap_words, obstacle_answer, uncapped}
+use Rattle.certificate_answers.specs.Answer.{Answer, case_of, yes_text}
+use Rattle.escrow_top.specs.Capping.{AreCapTexts, HasObstacle, IsCapDraft, IsCapDraftFor, IsCapDraftOf, IsCapEnded, IsCapOutcome, IsCapSearchOutcome, IsNextKnown, IsObstacle, IsUncapped, Obstructs, cap_draft_outcome, cap_text, cap_words, obstacle_answer, uncapped}
 use Rattle.certificate_answers.specs.Accepted.{HasPortfolio}
 use Rattle.escrow_top.specs.Capped.{Capped, HasNoCap, IsCappedDraft, IsCappedFor, SaysNoCap, WroteCapped}
 use Rattle.certificate_answers.specs.CaseOf.{AreWithin, GiveCase}
 use Rattle.certificate_answers.specs.InputFiles.{FileNames, InputFiles, inputs_of}
 use Rattle.certificate_answers.specs.Reading.{AreRead}
+use Rattle.certificate_answers.specs.Stopping.{is_structured}
+use Rattle.escrow_top.specs.Effects.{IsDone, saying}
+use Rattle.escrow_top.specs.Means.{CapMeans}
 use Rattle.escrow_top.specs.Settling.{OfCase}
-use Rattle.escrow_top.specs.Structure.{accepted_with}
+use Rattle.escrow_top.specs.Structure.{IsFoundText}
 use Rattle.certificate_answers.proofs.InputFacts.{read-all}
 use Rattle.certificate_answers.proofs.YieldFacts.{certified, printed_yield}
-use Rattle.escrow_top.proofs.StructureLaws.{part_untold, short_from, uncovered}
+use Rattle.escrow_top.proofs.StructureLaws.{short_from, uncovered}
 use Rattle.escrow_top.specs.declared.capping.CapDraft.{CapDraft}
 use Rattle.escrow_top.specs.declared.capping.CapDraft.TheVariants as draft
 use Rattle.certificate_answers.specs.declared.status.Status.{Status}
 use Rattle.certificate_answers.specs.declared.status.Status.TheVariants as status
+
+-- what was drawn up was put out
+abbrev pub PutsOutCap : Told → List ℕ → CapDraft → Status → Told → Type 0
+PutsOutCap told name d reached new = IsDone told (cap_draft_outcome name d) reached new
 
 -- ---- where no escrow is found
 no_obstacle : (own : Obstacle) → end_of own ≡ ended.NoMemory → ⊥
@@ -100,10 +107,10 @@ next_known laws case top cap (Some unfound) book terms is = record {
 
 -- ---- what is put out for a case
 pub cap_texts : AreSearchLaws → (case : CaseContents) (top : Rate) (greatest : GreatestCap) (cert said : List ℕ) → IsBook case.book → HasTerms case
-    → IsTopOf (slgs_rates case.book.lines) top → IsGreatestCap case top greatest → IsCapCertificate greatest cert → said ≡ cap_text greatest
-    → certificate_answer (case_view greatest.escrow.case) cert ≡ accepted_with (case_view greatest.escrow.case) greatest.escrow.found.plan greatest.escrow.found.gap
+    → IsTopOf (slgs_rates case.book.lines) top → IsGreatestCap case top greatest
+    → IsFoundText (case_view greatest.escrow.case) greatest.escrow.found.plan greatest.escrow.found.tree greatest.escrow.found.gap cert → said ≡ cap_text greatest
     → AreCapTexts case cert said
-cap_texts laws case top greatest cert said book terms is_top is is_cert is_said accepted = record {
+cap_texts laws case top greatest cert said book terms is_top is is_cert is_said = record {
   top = top;
   is_top = is_top;
   greatest = greatest;
@@ -113,7 +120,6 @@ cap_texts laws case top greatest cert said book terms is_top is is_cert is_said 
   above = λ below. itself_fails laws case top book terms is_top (is.top_fails below);
   is_cert = is_cert;
   is_said = is_said;
-  accepted = accepted;
 }
 
 pub is_uncapped : AreSearchLaws → CasesAtCapsAreOne → (case : CaseContents) (top : Rate) (zero : CaseAtZero) (answer : Answer) → IsBook case.book → HasTerms case
@@ -152,7 +158,7 @@ capped_texts law one files case cert said gives book terms is = record {
   case = case;
   gives = gives;
   certificate = certificate_of found.plan found.tree found.gap;
-  is_certificate = inr (subst (λ (other : CaseContents). IsPackedFormOf (length other.book.needs) (certificate_of found.plan found.tree found.gap) cert) same is.is_cert);
+  is_certificate = inr (subst (λ (other : CaseContents). IsPackedFormOf (length other.book.needs) (certificate_of found.plan found.tree found.gap) cert) same is.is_cert.is_text);
   right = record {
     top = is.top;
     is_top = is.is_top;
@@ -191,7 +197,7 @@ capped_for None names texts (draft.Said answer) read is = tt
 capped_for (Some content) names texts (draft.Found own) read is = (texts, read, is)
 capped_for (Some content) names texts (draft.Said answer) read is = tt
 
-pub wrote_capped : (told new : Told) (names : FileNames) (d : CapDraft) (reached : Status) → IsCapEnded d → IsCappedFor told names d → PutsOutCap told names.cert d reached new
+wrote_capped : (told new : Told) (names : FileNames) (d : CapDraft) (reached : Status) → IsCapEnded d → IsCappedFor told names d → PutsOutCap told names.cert d reached new
     → reached ≡ status.Done → WroteCapped told new names
 wrote_capped None new names d reached ends is put done = tt
 wrote_capped (Some content) new names (draft.Found texts) reached ends is put done =
@@ -221,48 +227,38 @@ of_files content names d texts case is read gives =
     let here : IsCapDraft (case_of texts) d = subst (λ (found : Option InputFiles). IsSomeAnd found (λ ts. IsCapDraft (case_of ts) d)) read is in
     subst (λ (found : Result CaseContents Refusal). IsCapDraft found d) gives here
 
-pub says_no_cap : CasesAtCapsAreOne → (told new : Told) (names : FileNames) (d : CapDraft) (reached : Status) → IsCapDraftFor told names d → PutsOutCap told names.cert d reached new
+says_no_cap : CasesAtCapsAreOne → (told new : Told) (names : FileNames) (d : CapDraft) (reached : Status) → IsCapDraftFor told names d → PutsOutCap told names.cert d reached new
     → OfCase (SaysNoCap reached) told names
 says_no_cap one None new names d reached is put = tt
 says_no_cap one (Some content) new names d reached is put = λ texts case read gives.
     said_of one (Some content) new names.cert case d reached put (of_files content names d texts case is read gives)
+
+-- ---- what the status means
+pub cap_means : CasesAtCapsAreOne → (told new : Told) (names : FileNames) (d : CapDraft) (reached : Status) → IsTrue (is_structured reached) → IsCapEnded d → IsCappedFor told names d → IsCapDraftFor told names d
+    → PutsOutCap told names.cert d reached new → CapMeans told names reached new
+cap_means one told new names d reached structured ends capped is put = record {
+  structured = structured;
+  capped = wrote_capped told new names d reached ends capped put;
+  uncapped = says_no_cap one told new names d reached is put;
+}
 
 -- ---- what holds of files that were read holds of those of their names
 pub cap_draft_for : (told : Told) (names : FileNames) (texts : InputFiles) (d : CapDraft) → AreRead told names texts → AreWithin texts → IsCapDraft (case_of texts) d → IsCapDraftFor told names d
 cap_draft_for None names texts d read within is = tt
 cap_draft_for (Some content) names texts d read within is = rw (read-all content names texts read within) is
 
--- ---- a draft that was put out
-put_of_case : (content : Content) (name : List ℕ) (gives : Result CaseContents Refusal) (d : CapDraft) (reached : Status) (new : Told) → IsCapDraft gives d → PutsOutCap (Some content) name d reached new
-    → IsCapPut content name gives reached new
-put_of_case content name (Err refusal) (draft.Found texts) reached new is put = absurd is
-put_of_case content name (Err refusal) (draft.Said answer) reached new is put =
-    (put.0 ∙ ap (λ (a : Answer). a.status) is, put.1 ∙ ap (λ (a : Answer). Some (with_said content a.text)) is)
-put_of_case content name (Ok case) (draft.Found texts) reached new is put = inl (texts.cert.items, texts.said.items, is, put.0, put.1)
-put_of_case content name (Ok case) (draft.Said answer) reached new is put = inr (answer, is, put.0, put.1)
+-- ---- what was drawn up as an outcome
+outcome_of_case : (name : List ℕ) (gives : Result CaseContents Refusal) (d : CapDraft) → IsCapDraft gives d → IsCapSearchOutcome name gives (cap_draft_outcome name d)
+outcome_of_case name (Err refusal) (draft.Found texts) is = absurd is
+outcome_of_case name (Err refusal) (draft.Said answer) is = ap saying is
+outcome_of_case name (Ok case) (draft.Found texts) is = inl (texts.cert.items, texts.said.items, is, refl)
+outcome_of_case name (Ok case) (draft.Said answer) is = inr (answer, is, refl)
 
-put_of_files : (content : Content) (name : List ℕ) (found : Option InputFiles) (d : CapDraft) (reached : Status) (new : Told) → IsSomeAnd found (λ texts. IsCapDraft (case_of texts) d)
-    → PutsOutCap (Some content) name d reached new → IsSomeAnd found (λ texts. IsCapPut content name (case_of texts) reached new)
-put_of_files content name None d reached new is put = absurd is
-put_of_files content name (Some texts) d reached new is put = put_of_case content name (case_of texts) d reached new is put
+outcome_of_files : (name : List ℕ) (found : Option InputFiles) (d : CapDraft) → IsSomeAnd found (λ texts. IsCapDraft (case_of texts) d)
+    → IsSomeAnd found (λ texts. IsCapSearchOutcome name (case_of texts) (cap_draft_outcome name d))
+outcome_of_files name None d is = absurd is
+outcome_of_files name (Some texts) d is = outcome_of_case name (case_of texts) d is
 
-pub caps : (told new : Told) (names : FileNames) (d : CapDraft) (reached : Status) → IsCapDraftFor told names d → PutsOutCap told names.cert d reached new → Caps told names reached new
-caps None new names (draft.Found texts) reached is put = put.1
-caps None new names (draft.Said answer) reached is put = put.1
-caps (Some content) new names d reached is put = put_of_files content names.cert (inputs_of content names) d reached new is put
-
-part_of_case : (content : Content) (name : List ℕ) (gives : Result CaseContents Refusal) (d : CapDraft) (new : Told) → IsCapDraft gives d → PutsOutCapPart (Some content) name d new → IsCapPartPut content name gives new
-part_of_case content name (Err refusal) (draft.Found texts) new is part = absurd is
-part_of_case content name (Err refusal) (draft.Said answer) new is part = subst (λ (a : Answer). SaidPart (Some content) a.text new) is part
-part_of_case content name (Ok case) (draft.Found texts) new is part = inl (texts.cert.items, texts.said.items, is, part)
-part_of_case content name (Ok case) (draft.Said answer) new is part = inr (answer, is, part)
-
-part_of_files : (content : Content) (name : List ℕ) (found : Option InputFiles) (d : CapDraft) (new : Told) → IsSomeAnd found (λ texts. IsCapDraft (case_of texts) d) → PutsOutCapPart (Some content) name d new
-    → IsSomeAnd found (λ texts. IsCapPartPut content name (case_of texts) new)
-part_of_files content name None d new is part = absurd is
-part_of_files content name (Some texts) d new is part = part_of_case content name (case_of texts) d new is part
-
-pub caps_part : (told new : Told) (names : FileNames) (d : CapDraft) → IsCapDraftFor told names d → PutsOutCapPart told names.cert d new → CapsPart told names new
-caps_part None new names (draft.Found texts) is part = part_untold names.cert texts.cert.items texts.said.items new part
-caps_part None new names (draft.Said answer) is part = part.said
-caps_part (Some content) new names d is part = part_of_files content names.cert (inputs_of content names) d new is part
+pub cap_outcome : (told : Told) (names : FileNames) (d : CapDraft) → IsCapDraftFor told names d → IsCapOutcome told names (cap_draft_outcome names.cert d)
+cap_outcome None names d is = tt
+cap_outcome (Some content) names d is = outcome_of_files names.cert (inputs_of content names) d is

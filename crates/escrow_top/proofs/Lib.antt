@@ -1,7 +1,7 @@
 pub mod NumberFacts
-pub mod WordLaws
-pub mod SaidLaws
+pub mod CommandLaws
 pub mod AskedLaws
+pub mod EffectLaws
 pub mod StructureLaws
 pub mod CappingLaws
 pub mod MakingLaws

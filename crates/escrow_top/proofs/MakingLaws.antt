@@ -1,6 +1,6 @@
 -- What `make` comes to, proved.
 use Rattle.std.proofs.Common.{◌≡◌, ◌∙◌, ℕ, List, length, Ok, Err, Result, subst, sym, ap, inl, inr}
-use Rattle.std.specs.Prelude.{IfOk}
+use Rattle.std.specs.Prelude.{IfOk, IsTrue}
 use Rattle.escrow_desk.specs.declared.refusal.Refusal.{Refusal}
 use Rattle.certificate_packing.proofs.FormFacts.{HasPackedForm, packed-form}
 use Rattle.branch_search.proofs.FoundFacts.{found_are_accepted, none_found_are_accepted}
@@ -14,7 +14,10 @@ use Rattle.escrow_top.specs.Covered.{IsCovered}
 use Rattle.certificate_answers.specs.InputFiles.{InputFiles}
 use Rattle.certificate_answers.specs.CaseOf.{GiveWorkedCase}
 use Rattle.escrow_top.specs.Making.{HasAcceptedText, IsAnswerToNumber, IsMadeAnswer, IsMadeNone, IsMadeOf, made_answer, made_files, none_answer}
-use Rattle.escrow_top.specs.Settling.{SaysReach, SettlesCovered}
+use Rattle.certificate_answers.specs.Stopping.{is_structured}
+use Rattle.escrow_top.specs.MakeWords.{Making}
+use Rattle.escrow_top.specs.Means.{IsFoundStatus, MakeMeans}
+use Rattle.escrow_top.specs.Settling.{SaysReach, SettlesCovered, SettlesPlain}
 use Rattle.escrow_top.specs.Structure.{IsEnd}
 use Rattle.certificate_answers.specs.declared.status.Status.{Status}
 use Rattle.certificate_answers.specs.declared.status.Status.TheVariants as status
@@ -92,7 +95,7 @@ covers_case number (Ok case) answer (inr (inr end)) = λ covered. absurd (by end
     by (inl own) covered = unreached case own.day own.short.all_short covered.in_reach
     by (inr own) covered = own.uncovered covered
 
-pub made_covered : (number : ℕ) (answer : Answer) (reached : Status) → IsAnswerToNumber number answer → reached ≡ answer.status → IfOk (case_of (made_files number)) (SettlesCovered reached)
+made_covered : (number : ℕ) (answer : Answer) (reached : Status) → IsAnswerToNumber number answer → reached ≡ answer.status → IfOk (case_of (made_files number)) (SettlesCovered reached)
 made_covered number answer reached is ends =
     subst (λ (s : Status). IfOk (case_of (made_files number)) (SettlesCovered s)) (sym ends) (covers_case number (case_of (made_files number)) answer is)
 
@@ -113,6 +116,23 @@ reach_case number (Ok case) answer (inr (inr end)) = by end
         let spent : answer.status ≡ status.BudgetSpent = ap (λ (a : Answer). a.status) own.is_answer in
         ((λ none. absurd (let clash : status.BudgetSpent ≡ status.Infeasible = sym spent ∙ none in cc)), (λ lost. absurd (lost own.is_spent.in_reach)))
 
-pub made_reach : (number : ℕ) (answer : Answer) (reached : Status) → IsAnswerToNumber number answer → reached ≡ answer.status → IfOk (case_of (made_files number)) (SaysReach reached)
+made_reach : (number : ℕ) (answer : Answer) (reached : Status) → IsAnswerToNumber number answer → reached ≡ answer.status → IfOk (case_of (made_files number)) (SaysReach reached)
 made_reach number answer reached is ends =
     subst (λ (s : Status). IfOk (case_of (made_files number)) (SaysReach s)) (sym ends) (reach_case number (case_of (made_files number)) answer is)
+
+-- ---- what the status means
+made_either : (files : InputFiles) (answer : Answer) (reached : Status) → (answer.status ≡ status.Done → HasAcceptedText files) → (answer.status ≡ status.NoneWithinYield → HasAcceptedText files)
+    → reached ≡ answer.status → IsFoundStatus reached → HasAcceptedText files
+made_either files answer reached accepted accepted_none ends (inl done) = accepted (sym ends ∙ done)
+made_either files answer reached accepted accepted_none ends (inr none) = accepted_none (sym ends ∙ none)
+
+pub make_means : (making : Making) (answer : Answer) (reached : Status) → IsTrue (is_structured answer.status) → (answer.status ≡ status.Done → HasAcceptedText (made_files making.number))
+    → (answer.status ≡ status.NoneWithinYield → HasAcceptedText (made_files making.number)) → IfOk (case_of (made_files making.number)) (SettlesPlain answer.status)
+    → IsAnswerToNumber making.number answer → reached ≡ answer.status → MakeMeans making reached
+make_means making answer reached structured accepted accepted_none plain is ends = record {
+  structured = subst (λ (s : Status). IsTrue (is_structured s)) (sym ends) structured;
+  made = made_either (made_files making.number) answer reached accepted accepted_none ends;
+  plain = subst (λ (s : Status). IfOk (case_of (made_files making.number)) (SettlesPlain s)) (sym ends) plain;
+  covered = made_covered making.number answer reached is ends;
+  reach = made_reach making.number answer reached is ends;
+}

@@ -2,7 +2,7 @@
 use Rattle.std.proofs.Common.{◌≡◌, ◌∙◌, ◌⊎◌, ℕ, ℤ, ◌≤◌, List, length, true, Some, None, Ok, Err, refl, subst, sym, ap, inl, inr, arith}
 use Rattle.std.specs.Prelude.{IsSomeAnd, IsTrue, Option, Result}
 use Rattle.std.proofs.lemmas.Bool.{le-ltb}
-use Rattle.escrow_desk.specs.Content.{Content, SaidPart, Told, WrotePart, with_said}
+use Rattle.escrow_desk.specs.Content.{Content, Told}
 use Rattle.escrow_desk.proofs.FilesFacts.{get_inserted}
 use Rattle.escrow_desk.specs.declared.limits.TheConstants.{CERTIFICATE_LIMIT}
 use Rattle.bound_certificate.specs.Versions.{IsCertificateText}
@@ -23,11 +23,14 @@ use Rattle.offer_book.specs.Book.{IsBook}
 use Rattle.escrow_desk.specs.declared.refusal.Refusal.{Refusal}
 use Rattle.branch_search.specs.Plain.{IsPlainWithin}
 use Rattle.certificate_answers.specs.Answer.{Answer, certificate_answer, searched_of}
+use Rattle.certificate_answers.specs.Holding.{IsAcceptedTextBeside}
 use Rattle.certificate_answers.specs.InputFiles.{FileNames, InputFiles, inputs_of}
 use Rattle.escrow_top.specs.Covered.{CoversPortfolios, CoversTree, IsCovered}
+use Rattle.escrow_top.specs.Effects.{IsDone, saying}
+use Rattle.escrow_top.specs.Means.{IsFoundStatus, StructureMeans}
 use Rattle.escrow_top.specs.Settling.{OfSearched, SaysReach, SettlesCovered, SettlesPlain}
 use Rattle.certificate_answers.specs.Stopping.{is_reached, is_structured, is_unfound}
-use Rattle.escrow_top.specs.Structure.{FindsPlain, FindsPlainFor, IsAcceptedDraft, IsAcceptedFor, IsDraft, IsDraftFor, IsDraftOf, IsEnd, IsFoundDraft, IsPartPutOut, IsPutOut, IsShortFrom, IsStructuredDraft, PutsOut, PutsOutPart, Structures, StructuresPart, WroteAccepted, WroteOrSaidPart, accepted_none, accepted_with, budget_spent, infeasible, telling_for}
+use Rattle.escrow_top.specs.Structure.{FindsPlain, FindsPlainFor, IsAcceptedDraft, IsAcceptedFor, IsDraft, IsDraftFor, IsDraftOf, IsEnd, IsFoundDraft, IsSearchOutcome, IsShortFrom, IsStructureOutcome, IsStructuredDraft, WroteAccepted, accepted_none, accepted_with, budget_spent, draft_outcome, infeasible, telling_for}
 use Rattle.certificate_answers.specs.Judged.{IsJudged}
 use Rattle.certificate_answers.proofs.AcceptedLaws.{searched_text}
 use Rattle.certificate_answers.proofs.InputFacts.{read-all}
@@ -40,6 +43,10 @@ use Rattle.escrow_top.specs.declared.draft.Telling.{Telling}
 use Rattle.certificate_answers.specs.declared.inquiry.Inquiry.TheVariants as inquiry
 use Rattle.certificate_answers.specs.declared.status.Status.{Status}
 use Rattle.certificate_answers.specs.declared.status.Status.TheVariants as status
+
+-- a draft was put out
+abbrev pub PutsOut : Told → List ℕ → Draft → Status → Told → Type 0
+PutsOut told name d reached new = IsDone told (draft_outcome name d) reached new
 
 pub unfound_reached : (s : Status) → IsTrue (is_unfound s) → IsTrue (is_reached s)
 unfound_reached status.Refused is = refl
@@ -79,7 +86,7 @@ none_accepted case nodes cert law book terms found is =
     rw (le-ltb CERTIFICATE_LIMIT (length cert) fits, ← told) refl
 
 -- the certificate that was written is accepted
-pub wrote : (told new : Told) (names : FileNames) (d : Draft) (reached : Status) → IsStructuredDraft d → IsAcceptedFor told names d → PutsOut told names.cert d reached new → reached ≡ status.Done → WroteAccepted told new names
+wrote : (told new : Told) (names : FileNames) (d : Draft) (reached : Status) → IsStructuredDraft d → IsAcceptedFor told names d → PutsOut told names.cert d reached new → reached ≡ status.Done → WroteAccepted (λ files. IsAcceptedTextBeside files.held files) told new names
 wrote None new names d reached structured accepted put done = tt
 wrote (Some content) new names (draft.Said answer) reached structured accepted put done = absurd (unfound_undone answer.status structured (sym put.0 ∙ done))
 wrote (Some content) new names (draft.NoneWithinYield texts) reached structured accepted put done = absurd (let clash : status.NoneWithinYield ≡ status.Done = sym put.0 ∙ done in cc)
@@ -87,15 +94,15 @@ wrote (Some content) new names (draft.Found texts) reached structured accepted p
     rw put.1 (record { files = accepted.0; cert = texts.cert.items; there = accepted.1; written = get_inserted content.files names.cert texts.cert.items; is = accepted.2 })
 
 -- what is about to be written is accepted
-pub accepted_draft : (files : InputFiles) (tells : Telling) (case : CaseContents) (d : Draft) → IsJudged inquiry.Held files case → IsDraftOf tells case d → IsAcceptedDraft files d
-accepted_draft files tells case (draft.Found texts) judged own = searched_text files texts.cert.items case judged (ap (λ (a : Answer). a.status) own.accepted)
+pub accepted_draft : (files : InputFiles) (tells : Telling) (case : CaseContents) (d : Draft) → IsJudged inquiry.Check files case → IsDraftOf tells case d → IsAcceptedDraft files d
+accepted_draft files tells case (draft.Found texts) judged own = searched_text files texts.cert.items case judged (ap (λ (a : Answer). a.status) own.is_cert.accepted)
 accepted_draft files tells case (draft.NoneWithinYield texts) judged own = searched_text files texts.cert.items case judged (ap (λ (a : Answer). a.status) own.accepted)
 accepted_draft files tells case (draft.Said answer) judged own = tt
 
 unfound_some : (s : Status) → IsTrue (is_unfound s) → s ≡ status.NoneWithinYield → ⊥
 unfound_some s is none = let clash : is_unfound status.NoneWithinYield ≡ true = subst (λ t. is_unfound t ≡ true) none is in absurd (cc)
 
-pub wrote_none : (told new : Told) (names : FileNames) (d : Draft) (reached : Status) → IsStructuredDraft d → IsAcceptedFor told names d → PutsOut told names.cert d reached new → reached ≡ status.NoneWithinYield → WroteAccepted told new names
+wrote_none : (told new : Told) (names : FileNames) (d : Draft) (reached : Status) → IsStructuredDraft d → IsAcceptedFor told names d → PutsOut told names.cert d reached new → reached ≡ status.NoneWithinYield → WroteAccepted (λ files. IsAcceptedTextBeside files.held files) told new names
 wrote_none None new names d reached structured accepted put none = tt
 wrote_none (Some content) new names (draft.Said answer) reached structured accepted put none = absurd (unfound_some answer.status structured (sym put.0 ∙ none))
 wrote_none (Some content) new names (draft.Found texts) reached structured accepted put none = absurd (let clash : status.Done ≡ status.NoneWithinYield = sym put.0 ∙ none in cc)
@@ -114,7 +121,7 @@ plain_found content names d texts case finds read is plain =
     let here : FindsPlain (searched_of texts) d = subst (λ (found : Option InputFiles). IsSomeAnd found (λ ts. FindsPlain (searched_of ts) d)) read finds in
     subst (λ (found : Result CaseContents Refusal). FindsPlain found d) is here plain
 
-pub settles_plain : (told new : Told) (names : FileNames) (d : Draft) (reached : Status) → FindsPlainFor told names d → PutsOut told names.cert d reached new → OfSearched (SettlesPlain reached) told names
+settles_plain : (told new : Told) (names : FileNames) (d : Draft) (reached : Status) → FindsPlainFor told names d → PutsOut told names.cert d reached new → OfSearched (SettlesPlain reached) told names
 settles_plain None new names d reached finds put = tt
 settles_plain (Some content) new names d reached finds put = λ texts case read is plain.
     found_done (Some content) new names.cert d reached (plain_found content names d texts case finds read is plain) put
@@ -162,11 +169,26 @@ reach_said tells case told new name (draft.Said answer) reached is put = by is
     by (inr own) =
         ((λ none. absurd (let clash : status.BudgetSpent ≡ status.Infeasible = sym (put.0 ∙ ap (λ (a : Answer). a.status) own.is_answer) ∙ none in cc)), (λ lost. absurd (lost own.is_spent.in_reach)))
 
-pub settles_covered : (told new : Told) (names : FileNames) (d : Draft) (reached : Status) → IsDraftFor told names d → PutsOut told names.cert d reached new → OfSearched (SettlesCovered reached) told names
+settles_covered : (told new : Told) (names : FileNames) (d : Draft) (reached : Status) → IsDraftFor told names d → PutsOut told names.cert d reached new → OfSearched (SettlesCovered reached) told names
 settles_covered told new names d reached is put = of_case (SettlesCovered reached) told names d (λ tells case own. settled tells case told new names.cert d reached own put) is
 
-pub says_reach : (told new : Told) (names : FileNames) (d : Draft) (reached : Status) → IsDraftFor told names d → PutsOut told names.cert d reached new → OfSearched (SaysReach reached) told names
+says_reach : (told new : Told) (names : FileNames) (d : Draft) (reached : Status) → IsDraftFor told names d → PutsOut told names.cert d reached new → OfSearched (SaysReach reached) told names
 says_reach told new names d reached is put = of_case (SaysReach reached) told names d (λ tells case own. reach_said tells case told new names.cert d reached own put) is
+
+-- ---- what the status means
+wrote_either : (told new : Told) (names : FileNames) (d : Draft) (reached : Status) → IsStructuredDraft d → IsAcceptedFor told names d → PutsOut told names.cert d reached new → IsFoundStatus reached → WroteAccepted (λ files. IsAcceptedTextBeside files.held files) told new names
+wrote_either told new names d reached ends accepted put (inl done) = wrote told new names d reached ends accepted put done
+wrote_either told new names d reached ends accepted put (inr none) = wrote_none told new names d reached ends accepted put none
+
+pub structure_means : (told new : Told) (names : FileNames) (d : Draft) (reached : Status) → IsTrue (is_structured reached) → IsStructuredDraft d → IsAcceptedFor told names d → FindsPlainFor told names d → IsDraftFor told names d
+    → PutsOut told names.cert d reached new → StructureMeans told names reached new
+structure_means told new names d reached structured ends accepted finds is put = record {
+  structured = structured;
+  wrote = wrote_either told new names d reached ends accepted put;
+  plain = settles_plain told new names d reached finds put;
+  covered = settles_covered told new names d reached is put;
+  reach = says_reach told new names d reached is put;
+}
 
 -- a spent budget, as an answer
 pub spent_end : (case : CaseContents) (spent : Spent) (answer : Answer) → PartsAreWithin → PartsAreFew → IsBook case.book → IsSpent case spent → answer ≡ budget_spent case.book spent → IsEnd case answer
@@ -197,51 +219,20 @@ accepted_for (Some content) names texts (draft.Found own) read is = (texts, read
 accepted_for (Some content) names texts (draft.NoneWithinYield own) read is = (texts, read, is)
 accepted_for (Some content) names texts (draft.Said answer) read is = tt
 
--- ---- a draft that was put out
-put_of_case : (content : Content) (name : List ℕ) (tells : Telling) (gives : Result CaseContents Refusal) (d : Draft) (reached : Status) (new : Told) → IsDraft tells gives d → PutsOut (Some content) name d reached new → IsPutOut content name tells gives reached new
-put_of_case content name tells (Err refusal) (draft.Found texts) reached new is put = absurd is
-put_of_case content name tells (Err refusal) (draft.NoneWithinYield texts) reached new is put = absurd is
-put_of_case content name tells (Err refusal) (draft.Said answer) reached new is put =
-    (put.0 ∙ ap (λ (a : Answer). a.status) is, put.1 ∙ ap (λ (a : Answer). Some (with_said content a.text)) is)
-put_of_case content name tells (Ok case) (draft.Found texts) reached new is put = inl (texts.cert.items, texts.said.items, is, put.0, put.1)
-put_of_case content name tells (Ok case) (draft.NoneWithinYield texts) reached new is put = inr (inl (texts.cert.items, texts.said.items, is, put.0, put.1))
-put_of_case content name tells (Ok case) (draft.Said answer) reached new is put = inr (inr (answer, is, put.0, put.1))
+-- ---- a draft as an outcome
+outcome_of_case : (name : List ℕ) (tells : Telling) (gives : Result CaseContents Refusal) (d : Draft) → IsDraft tells gives d → IsSearchOutcome name tells gives (draft_outcome name d)
+outcome_of_case name tells (Err refusal) (draft.Found texts) is = absurd is
+outcome_of_case name tells (Err refusal) (draft.NoneWithinYield texts) is = absurd is
+outcome_of_case name tells (Err refusal) (draft.Said answer) is = ap saying is
+outcome_of_case name tells (Ok case) (draft.Found texts) is = inl (texts.cert.items, texts.said.items, is, refl)
+outcome_of_case name tells (Ok case) (draft.NoneWithinYield texts) is = inr (inl (texts.cert.items, texts.said.items, is, refl))
+outcome_of_case name tells (Ok case) (draft.Said answer) is = inr (inr (answer, is, refl))
 
-put_of_files : (content : Content) (name : List ℕ) (found : Option InputFiles) (d : Draft) (reached : Status) (new : Told) → IsSomeAnd found (λ texts. IsDraft (telling_for texts.held) (searched_of texts) d) → PutsOut (Some content) name d reached new
-    → IsSomeAnd found (λ texts. IsPutOut content name (telling_for texts.held) (searched_of texts) reached new)
-put_of_files content name None d reached new is put = absurd is
-put_of_files content name (Some texts) d reached new is put = put_of_case content name (telling_for texts.held) (searched_of texts) d reached new is put
+outcome_of_files : (name : List ℕ) (found : Option InputFiles) (d : Draft) → IsSomeAnd found (λ texts. IsDraft (telling_for texts.held) (searched_of texts) d)
+    → IsSomeAnd found (λ texts. IsSearchOutcome name (telling_for texts.held) (searched_of texts) (draft_outcome name d))
+outcome_of_files name None d is = absurd is
+outcome_of_files name (Some texts) d is = outcome_of_case name (telling_for texts.held) (searched_of texts) d is
 
-pub structures : (told new : Told) (names : FileNames) (d : Draft) (reached : Status) → IsDraftFor told names d → PutsOut told names.cert d reached new → Structures told names reached new
-structures None new names (draft.Found texts) reached is put = put.1
-structures None new names (draft.NoneWithinYield texts) reached is put = put.1
-structures None new names (draft.Said answer) reached is put = put.1
-structures (Some content) new names d reached is put = put_of_files content names.cert (inputs_of content names) d reached new is put
-
--- a part of it was put out
-part_of_case : (content : Content) (name : List ℕ) (tells : Telling) (gives : Result CaseContents Refusal) (d : Draft) (new : Told) → IsDraft tells gives d → PutsOutPart (Some content) name d new → IsPartPutOut content name tells gives new
-part_of_case content name tells (Err refusal) (draft.Found texts) new is part = absurd is
-part_of_case content name tells (Err refusal) (draft.NoneWithinYield texts) new is part = absurd is
-part_of_case content name tells (Err refusal) (draft.Said answer) new is part = subst (λ (a : Answer). SaidPart (Some content) a.text new) is part
-part_of_case content name tells (Ok case) (draft.Found texts) new is part = inl (texts.cert.items, texts.said.items, is, part)
-part_of_case content name tells (Ok case) (draft.NoneWithinYield texts) new is part = inr (inl (texts.cert.items, texts.said.items, is, part))
-part_of_case content name tells (Ok case) (draft.Said answer) new is part = inr (inr (answer, is, part))
-
-part_of_files : (content : Content) (name : List ℕ) (found : Option InputFiles) (d : Draft) (new : Told) → IsSomeAnd found (λ texts. IsDraft (telling_for texts.held) (searched_of texts) d) → PutsOutPart (Some content) name d new
-    → IsSomeAnd found (λ texts. IsPartPutOut content name (telling_for texts.held) (searched_of texts) new)
-part_of_files content name None d new is part = absurd is
-part_of_files content name (Some texts) d new is part = part_of_case content name (telling_for texts.held) (searched_of texts) d new is part
-
-none_told : (name text : List ℕ) (new : Told) → WrotePart None name text new → new ≡ None
-none_told name text new (inl same) = same
-none_told name text new (inr prefix) = prefix.wrote
-
-pub part_untold : (name cert said : List ℕ) (new : Told) → WroteOrSaidPart None name cert said new → new ≡ None
-part_untold name cert said new (inl part) = none_told name cert new part
-part_untold name cert said new (inr part) = part.said
-
-pub structures_part : (told new : Told) (names : FileNames) (d : Draft) → IsDraftFor told names d → PutsOutPart told names.cert d new → StructuresPart told names new
-structures_part None new names (draft.Found texts) is part = part_untold names.cert texts.cert.items texts.said.items new part
-structures_part None new names (draft.NoneWithinYield texts) is part = part_untold names.cert texts.cert.items texts.said.items new part
-structures_part None new names (draft.Said answer) is part = part.said
-structures_part (Some content) new names d is part = part_of_files content names.cert (inputs_of content names) d new is part
+pub structure_outcome : (told : Told) (names : FileNames) (d : Draft) → IsDraftFor told names d → IsStructureOutcome told names (draft_outcome names.cert d)
+structure_outcome None names d is = tt
+structure_outcome (Some content) names d is = outcome_of_files names.cert (inputs_of content names) d is

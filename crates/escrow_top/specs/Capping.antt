@@ -1,13 +1,11 @@
 -- What `cap` comes to. The common cap and the texts are this project's own.
 use Rattle.std.specs.Prelude.{◌≡◌, ◌≢◌, ◌⊎◌, ℕ, ◌+◌, ◌<◌, List, [], ◌++◌, codes, length, Option, Some, None, Result, Ok, Err, IsSomeAnd, IsTrue}
-use Rattle.escrow_desk.specs.Content.{Content, Told, with_file, with_said, SaidAll, SaidPart, WrotePart}
+use Rattle.escrow_desk.specs.Content.{Content, Told}
 use Rattle.escrow_desk.specs.declared.refusal.Refusal.{Refusal}
 use Rattle.escrow_units.specs.DateText.{day_text}
 use Rattle.escrow_units.specs.Digits.{fixed}
 use Rattle.escrow_units.specs.declared.amount.Rate.{Rate}
-use Rattle.bound_certificate.specs.Versions.{IsPackedFormOf}
 use Rattle.branch_search.specs.Plain.{IsPlainWithin}
-use Rattle.branch_search.specs.Purchases.{certificate_of}
 use Rattle.branch_search.specs.Search.{IsNoneFound, IsSpent}
 use Rattle.cap_finder.specs.Ends.{IsCappedEscrow}
 use Rattle.cap_finder.specs.declared.ends.CaseAtZero.{CaseAtZero}
@@ -22,11 +20,13 @@ use Rattle.rate_cap.specs.Search.{IsCapUpTo, zero_cap}
 use Rattle.verification_report.specs.Report.{figures_of}
 use Rattle.verification_report.specs.Summary.{summary_text, text_line}
 use Rattle.verification_report.specs.declared.figures.Figures.{Figures}
-use Rattle.certificate_answers.specs.Answer.{Answer, case_of, certificate_answer, refused, refused_text}
+use Rattle.certificate_answers.specs.Answer.{Answer, case_of, refused}
 use Rattle.escrow_top.specs.Covered.{IsCovered}
+use Rattle.escrow_top.specs.Effects.{Outcome, saying, writing}
+use Rattle.escrow_top.specs.Settling.{OfInputs}
 use Rattle.certificate_answers.specs.InputFiles.{FileNames, inputs_of}
 use Rattle.certificate_answers.specs.Stopping.{is_structured}
-use Rattle.escrow_top.specs.Structure.{IsShortFrom, WroteAndSaid, WroteOrSaidPart, accepted_with, budget_spent, infeasible, none_within_text}
+use Rattle.escrow_top.specs.Structure.{IsFoundText, IsShortFrom, budget_spent, infeasible, none_within_text}
 use Rattle.escrow_top.specs.declared.capping.CapDraft.{CapDraft}
 use Rattle.escrow_top.specs.declared.capping.CapDraft.TheVariants as draft
 use Rattle.certificate_answers.specs.declared.status.Status.{Status}
@@ -52,12 +52,6 @@ cap_words cap figures next = text_line (codes "cap ") (fixed 3 cap.0) ++ summary
 abbrev pub cap_text : GreatestCap → List ℕ
 cap_text greatest =
     cap_words greatest.escrow.cap (figures_of (case_view greatest.escrow.case) greatest.escrow.found.plan greatest.escrow.found.gap) greatest.next
-
--- bytes are a text of the certificate of that escrow, whose leaves share their prices
-abbrev pub IsCapCertificate : GreatestCap → List ℕ → Type 0
-IsCapCertificate greatest cert =
-    IsPackedFormOf (length (case_view greatest.escrow.case).book.needs)
-    (certificate_of greatest.escrow.found.plan greatest.escrow.found.tree greatest.escrow.found.gap) cert
 
 -- why no escrow was found for a case, as `structure` says it
 abbrev pub obstacle_answer : CaseContents → Obstacle → Answer
@@ -101,9 +95,8 @@ abbrev pub IsNextKnown : CaseContents → Rate → Rate → Option Unfound → T
 IsNextKnown case top cap None = cap ≡ top
 IsNextKnown case top cap (Some unfound) = IsKnownAbove case top cap unfound
 
--- ---- what is put out
--- the texts of an escrow at a cap up to the top of a case's SLGS rates: its certificate, which `check` accepts for the case at that
--- cap, and what is said. Where the cap is below the top, no escrow was found for the case itself
+-- ---- what is drawn up
+-- the texts of an escrow at a cap up to the top of a case's SLGS rates: its certificate, for the case at that cap, and what is said. Where the cap is below the top, no escrow was found for the case itself
 pub record AreCapTexts (case : CaseContents) (cert said : List ℕ) : Type 0 where
   pub top : Rate
   pub is_top : IsTopOf (slgs_rates case.book.lines) top
@@ -112,9 +105,8 @@ pub record AreCapTexts (case : CaseContents) (cert said : List ℕ) : Type 0 whe
   pub escrow : IsCappedEscrow case greatest.escrow
   pub next : IsNextKnown case top greatest.escrow.cap greatest.next
   pub above : greatest.escrow.cap.0 < top.0 → HasObstacle case
-  pub is_cert : IsCapCertificate greatest cert
+  pub is_cert : IsFoundText (case_view greatest.escrow.case) greatest.escrow.found.plan greatest.escrow.found.tree greatest.escrow.found.gap cert
   pub is_said : said ≡ cap_text greatest
-  pub accepted : certificate_answer (case_view greatest.escrow.case) cert ≡ accepted_with (case_view greatest.escrow.case) greatest.escrow.found.plan greatest.escrow.found.gap
 
 -- no escrow was found, neither for the case at cap 0 nor for the case itself, as an answer
 pub record IsUncapped (case : CaseContents) (answer : Answer) : Type 0 where
@@ -150,41 +142,20 @@ abbrev pub IsCapEnded : CapDraft → Type 0
 IsCapEnded (draft.Found texts) = Unit {0}
 IsCapEnded (draft.Said answer) = IsUncappedStatus answer.status
 
--- ---- what stands after
--- the certificate was written whole, and then what is said; or that alone was said, and no file changed
-abbrev pub IsCapPut : Content → List ℕ → Result CaseContents Refusal → Status → Told → Type 0
-IsCapPut content name (Err refusal) reached new =
-    (reached ≡ status.Refused) × (new ≡ Some (with_said content (refused_text refusal)))
-IsCapPut content name (Ok case) reached new =
-    ((cert said : List ℕ) × AreCapTexts case cert said × (reached ≡ status.Done) × (new ≡ Some (with_said (with_file content name cert) said)))
-    ⊎ ((answer : Answer) × IsUncapped case answer × (reached ≡ answer.status) × (new ≡ Some (with_said content answer.text)))
+-- ---- what is put out
+-- what `cap` drew up, with the name of the certificate
+abbrev pub cap_draft_outcome : List ℕ → CapDraft → Outcome
+cap_draft_outcome name (draft.Found texts) = writing status.Done name texts.cert.items texts.said.items
+cap_draft_outcome name (draft.Said answer) = saying answer
 
--- a write failed: the certificate's file is as before or holds a prefix of its text, and nothing was said; or the file is whole, and a
--- prefix of the text was said; or a prefix of a text was said, and no file changed
-abbrev pub IsCapPartPut : Content → List ℕ → Result CaseContents Refusal → Told → Type 0
-IsCapPartPut content name (Err refusal) new = SaidPart (Some content) (refused_text refusal) new
-IsCapPartPut content name (Ok case) new =
-    ((cert said : List ℕ) × AreCapTexts case cert said × (WrotePart (Some content) name cert new ⊎ SaidPart (Some (with_file content name cert)) said new))
-    ⊎ ((answer : Answer) × IsUncapped case answer × SaidPart (Some content) answer.text new)
+-- the outcome for a case: the certificate of an escrow at a cap is written, and then that is said; or it is said that none was found. Or
+-- a file is refused
+abbrev pub IsCapSearchOutcome : List ℕ → Result CaseContents Refusal → Outcome → Type 0
+IsCapSearchOutcome name (Err refusal) outcome = outcome ≡ saying (refused refusal)
+IsCapSearchOutcome name (Ok case) outcome =
+    ((cert text : List ℕ) × AreCapTexts case cert text × (outcome ≡ writing status.Done name cert text))
+    ⊎ ((answer : Answer) × IsUncapped case answer × (outcome ≡ saying answer))
 
--- the same of a draft that was put out, whether the desk tells or not
-abbrev pub PutsOutCap : Told → List ℕ → CapDraft → Status → Told → Type 0
-PutsOutCap old name (draft.Found texts) reached new = (reached ≡ status.Done) × WroteAndSaid old name texts.cert.items texts.said.items new
-PutsOutCap old name (draft.Said answer) reached new = (reached ≡ answer.status) × SaidAll old answer.text new
-
--- the same where a write failed: the certificate's file is as before or holds a part, or a part was said
-abbrev pub PutsOutCapPart : Told → List ℕ → CapDraft → Told → Type 0
-PutsOutCapPart old name (draft.Found texts) new = WroteOrSaidPart old name texts.cert.items texts.said.items new
-PutsOutCapPart old name (draft.Said answer) new = SaidPart old answer.text new
-
--- the same where a desk tells, and the input files of the names are read
-abbrev pub Caps : Told → FileNames → Status → Told → Type 0
-Caps None names reached new = new ≡ None
-Caps (Some content) names reached new =
-    IsSomeAnd (inputs_of content names) (λ texts. IsCapPut content names.cert (case_of texts) reached new)
-
--- what stands where a write failed, for the input files of the names
-abbrev pub CapsPart : Told → FileNames → Told → Type 0
-CapsPart None names new = new ≡ None
-CapsPart (Some content) names new =
-    IsSomeAnd (inputs_of content names) (λ texts. IsCapPartPut content names.cert (case_of texts) new)
+-- the same of the input files of names, where a desk tells
+abbrev pub IsCapOutcome : Told → FileNames → Outcome → Type 0
+IsCapOutcome told names outcome = OfInputs (λ files. IsCapSearchOutcome names.cert (case_of files) outcome) told names

@@ -28,8 +28,10 @@ pub mod Capped
 pub mod Capping
 pub mod Command
 pub mod Covered
+pub mod Effects
 pub mod Ending
 pub mod MakeWords
 pub mod Making
+pub mod Means
 pub mod Settling
 pub mod Structure

@@ -1,5 +1,5 @@
 -- The words of `make`.
-use Rattle.std.specs.Prelude.{ℕ, ◌^◌, nat_eq, nat_lt, ◌&&◌, List, [], ◌∷◌, Option, Some, None, if◌then◌else◌, codes, decimal, option_map}
+use Rattle.std.specs.Prelude.{ℕ, ◌^◌, nat_eq, nat_lt, ◌&&◌, List, Option, Some, None, if◌then◌else◌, decimal}
 use Rattle.std.specs.Str.Parse.{digits_value}
 use lib.Pointwise.{pointwise}
 
@@ -19,15 +19,3 @@ pub record MadeNames : Type 0 where
 pub record Making : Type 0 where
   pub number : ℕ
   pub names : MadeNames
-
--- what is to be made, by its words in order
-abbrev pub making_of : ℕ → List ℕ → List ℕ → List ℕ → Making
-making_of number issue rates prices = record { number = number; names = record { issue = issue; rates = rates; prices = prices } }
-
--- what the words `make NUMBER ISSUE RATES PRICES` ask for
-abbrev pub make_words : List (List ℕ) → Option Making
-make_words (word ∷ number ∷ issue ∷ rates ∷ prices ∷ []) =
-    if pointwise nat_eq word (codes "make")
-    then option_map (λ n. making_of n issue rates prices) (number_of_word number)
-    else None
-make_words words = None

@@ -1,6 +1,5 @@
 -- What `make` comes to: the files of the case of a number, and the answer to it. The texts are this project's own.
 use Rattle.std.specs.Prelude.{◌≡◌, ◌⊎◌, ℕ, List, [], ◌∷◌, ◌++◌, codes, decimal, Result, Ok, Err, IfOk, length}
-use Rattle.escrow_desk.specs.Content.{Content, SaidPart, Told, WrotePart, told_map, with_file, with_said}
 use Rattle.escrow_desk.specs.declared.refusal.Refusal.{Refusal}
 use Rattle.bound_certificate.specs.declared.certificate.Certificate.{Certificate}
 use Rattle.bound_certificate.specs.Versions.{IsCertificateText}
@@ -13,6 +12,7 @@ use Rattle.verification_report.specs.Report.{figures_of}
 use Rattle.verification_report.specs.Summary.{summary_text, text_line}
 use Rattle.certificate_answers.specs.Answer.{Answer, case_of, certificate_answer, refused}
 use Rattle.certificate_answers.specs.InputFiles.{InputFiles, three_files}
+use Rattle.escrow_top.specs.Effects.{Outcome, Say, Write}
 use Rattle.escrow_top.specs.MakeWords.{MadeNames, Making}
 use Rattle.certificate_answers.specs.Accepted.{IsAcceptedText}
 use Rattle.escrow_top.specs.Structure.{IsEnd, accepted_none, accepted_with, nodes_line, none_within_text}
@@ -88,48 +88,14 @@ abbrev pub OfMadeCase : (CaseContents → Type 0) → Making → Type 0
 OfMadeCase Holds making = IfOk (case_of (made_files making.number)) Holds
 
 -- ---- what is put out
--- a name, and the bytes that its file is to hold
-pub record NamedFile : Type 0 where
-  pub name : List ℕ
-  pub bytes : List ℕ
+-- the files of names are written, one after another, and then an answer is said
+abbrev pub made_outcome : MadeNames → InputFiles → Answer → Outcome
+made_outcome names files answer = record {
+  status = answer.status;
+  effects = Write names.issue files.issue ∷ Write names.rates files.rates ∷ Write names.prices files.prices ∷ Say answer.text ∷ [];
+}
 
--- input files under the names of `make`, in the order in which they are written
-abbrev pub named_files : MadeNames → InputFiles → List NamedFile
-named_files names files =
-    record { name = names.issue; bytes = files.issue }
-    ∷ record { name = names.rates; bytes = files.rates }
-    ∷ record { name = names.prices; bytes = files.prices }
-    ∷ []
-
--- the content after files were written whole, one after another: of equal names the later bytes stand
-abbrev pub with_files : List NamedFile → Content → Content
-with_files [] content = content
-with_files (file ∷ files) content = with_files files (with_file content file.name file.bytes)
-
--- a call failed while they were written: the file at fault is as before, or holds a prefix of its bytes; those before it are whole,
--- and those after it as before
-abbrev pub WroteSome : Told → List NamedFile → Told → Type 0
-WroteSome old [] new = ⊥
-WroteSome old (file ∷ files) new =
-    WrotePart old file.name file.bytes new ⊎ WroteSome (told_map (λ content. with_file content file.name file.bytes) old) files new
-
--- files were written whole, and then a text was said
-abbrev pub WroteFilesAndSaid : Told → List NamedFile → List ℕ → Told → Type 0
-WroteFilesAndSaid old files text new = new ≡ told_map (λ content. with_said (with_files files content) text) old
-
--- a part of that: some of the files, or all of them and a prefix of the text
-abbrev pub WroteFilesOrSaidPart : Told → List NamedFile → List ℕ → Told → Type 0
-WroteFilesOrSaidPart old files text new = WroteSome old files new ⊎ SaidPart (told_map (with_files files) old) text new
-
--- the status, and what stands then: the three files of the case were written whole, and then the text of the answer was said
-pub record Makes (told : Told) (making : Making) (reached : Status) (new : Told) : Type 0 where
-  pub answer : Answer
-  pub is : IsAnswerToNumber making.number answer
-  pub status : reached ≡ answer.status
-  pub put : WroteFilesAndSaid told (named_files making.names (made_files making.number)) answer.text new
-
--- what stands where a write failed: a part of that
-pub record MakesPart (told : Told) (making : Making) (new : Told) : Type 0 where
-  pub answer : Answer
-  pub is : IsAnswerToNumber making.number answer
-  pub put : WroteFilesOrSaidPart told (named_files making.names (made_files making.number)) answer.text new
+-- the outcome for a number: the three files of its case are written, and then the answer to it is said
+abbrev pub IsMadeOutcome : Making → Outcome → Type 0
+IsMadeOutcome making outcome =
+    (answer : Answer) × IsAnswerToNumber making.number answer × (outcome ≡ made_outcome making.names (made_files making.number) answer)

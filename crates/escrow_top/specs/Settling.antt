@@ -1,5 +1,5 @@
 -- What `structure` comes to, by the case of its files.
-use Rattle.std.specs.Prelude.{◌≡◌, ◌↔◌, ◌⊎◌, Some, None, Ok}
+use Rattle.std.specs.Prelude.{◌≡◌, ◌↔◌, ◌⊎◌, Some, None, Ok, IsSomeAnd, MatchOption}
 use Rattle.branch_search.specs.Plain.{IsPlainWithin}
 use Rattle.case_file.specs.Case.{CaseContents}
 use Rattle.cash_table.specs.Reach.{IsInReach}
@@ -9,6 +9,10 @@ use Rattle.escrow_top.specs.Covered.{IsCovered}
 use Rattle.certificate_answers.specs.InputFiles.{FileNames, InputFiles, inputs_of}
 use Rattle.certificate_answers.specs.declared.status.Status.{Status}
 use Rattle.certificate_answers.specs.declared.status.Status.TheVariants as status
+
+-- where the desk tells: the input files of names that are read are there, and this holds of them
+abbrev pub OfInputs : (InputFiles → Type 0) → Told → FileNames → Type 0
+OfInputs Holds told names = MatchOption told (Unit {0}) (λ content. IsSomeAnd (inputs_of content names) Holds)
 
 -- where the desk tells, and the input files of names give a case: this holds of it
 abbrev pub OfCase : (CaseContents → Type 0) → Told → FileNames → Type 0

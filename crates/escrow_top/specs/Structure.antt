@@ -1,6 +1,6 @@
 -- What `structure` and `structure-held` come to. The texts are this project's own.
 use Rattle.std.specs.Prelude.{◌≡◌, ◌⊎◌, ℕ, List, [], ◌++◌, codes, decimal, length, Option, Some, None, Result, Ok, Err, IsSomeAnd, IsTrue, ℤ}
-use Rattle.escrow_desk.specs.Content.{Content, Told, file_of, told_map, with_file, with_said, SaidAll, SaidPart, WrotePart}
+use Rattle.escrow_desk.specs.Content.{Content, Told, file_of}
 use Rattle.escrow_desk.specs.declared.refusal.Refusal.{Refusal}
 use Rattle.escrow_units.specs.DateText.{day_text}
 use Rattle.bound_certificate.specs.Versions.{IsPackedFormOf}
@@ -16,11 +16,13 @@ use Rattle.offer_book.specs.Book.{BookContents}
 use Rattle.offer_book.specs.Portfolio.{IsFirstShort, cost}
 use Rattle.verification_report.specs.Report.{figures_of, report_text}
 use Rattle.verification_report.specs.Summary.{summary_text, text_line}
-use Rattle.certificate_answers.specs.Answer.{Answer, certificate_answer, none_text, refused_text, searched_of}
+use Rattle.certificate_answers.specs.Answer.{Answer, certificate_answer, none_text, refused, searched_of}
 use Rattle.escrow_top.specs.Covered.{IsCovered}
+use Rattle.escrow_top.specs.Effects.{Outcome, saying, writing}
 use Rattle.certificate_answers.specs.Holding.{IsAcceptedTextBeside}
 use Rattle.certificate_answers.specs.InputFiles.{FileNames, InputFiles, inputs_of}
 use Rattle.certificate_answers.specs.Reading.{AreThere}
+use Rattle.escrow_top.specs.Settling.{OfInputs}
 use Rattle.certificate_answers.specs.Stopping.{is_unfound}
 use Rattle.escrow_top.specs.declared.draft.Draft.{Draft}
 use Rattle.escrow_top.specs.declared.draft.Draft.TheVariants as draft
@@ -71,17 +73,20 @@ abbrev pub told_text : Telling → CaseContents → List ℕ → ℕ → List �
 told_text telling.Report case plan gap = report_text case plan gap
 told_text telling.Summary case plan gap = summary_text (figures_of case plan gap)
 
--- the texts of a portfolio that was found, with the least gap that its tree supports: its certificate, which `check` accepts for the case,
--- and what is said of it
+-- a text of the certificate of what was found for a case, whose leaves share their prices; `check` accepts it, with these figures
+pub record IsFoundText (case : CaseContents) (plan : List ℕ) (nodes : List TreeNode) (gap : ℕ) (cert : List ℕ) : Type 0 where
+  pub is_text : IsPackedFormOf (length case.book.needs) (certificate_of plan nodes gap) cert
+  pub accepted : certificate_answer case cert ≡ accepted_with case plan gap
+
+-- the texts of a portfolio that was found, with the least gap that its tree supports: its certificate, and what is said of it
 pub record AreTexts (tells : Telling) (case : CaseContents) (cert said : List ℕ) : Type 0 where
   pub plan : List ℕ
   pub nodes : List TreeNode
   pub gap : ℕ
   pub found : IsFound case plan nodes gap
   pub found_by : IsFoundBy case plan nodes
-  pub is_cert : IsPackedFormOf (length case.book.needs) (certificate_of plan nodes gap) cert
+  pub is_cert : IsFoundText case plan nodes gap cert
   pub is_said : said ≡ told_text tells case plan gap
-  pub accepted : certificate_answer case cert ≡ accepted_with case plan gap
 
 -- the texts of a tree which shows that there is no rival: its certificate, which `check` accepts, and how many nodes it has
 pub record AreNoneTexts (case : CaseContents) (cert said : List ℕ) : Type 0 where
@@ -125,32 +130,13 @@ IsDraftOf tells case (draft.Said answer) = IsEnd case answer
 abbrev pub IsDraft : Telling → Result CaseContents Refusal → Draft → Type 0
 IsDraft tells (Err refusal) (draft.Found texts) = ⊥
 IsDraft tells (Err refusal) (draft.NoneWithinYield texts) = ⊥
-IsDraft tells (Err refusal) (draft.Said answer) = answer ≡ record { status = status.Refused; text = refused_text refusal }
+IsDraft tells (Err refusal) (draft.Said answer) = answer ≡ refused refusal
 IsDraft tells (Ok case) found = IsDraftOf tells case found
 
 -- the same of the input files of names on a desk that tells
 abbrev pub IsDraftFor : Told → FileNames → Draft → Type 0
 IsDraftFor None names found = Unit {0}
 IsDraftFor (Some content) names found = IsSomeAnd (inputs_of content names) (λ texts. IsDraft (telling_for texts.held) (searched_of texts) found)
-
--- what stands after a status: the certificate was written whole, and then what is found was said, or that there is no rival; or a text
--- was said, and no file changed
-abbrev pub IsPutOut : Content → List ℕ → Telling → Result CaseContents Refusal → Status → Told → Type 0
-IsPutOut content name tells (Err refusal) reached new =
-    (reached ≡ status.Refused) × (new ≡ Some (with_said content (refused_text refusal)))
-IsPutOut content name tells (Ok case) reached new =
-    ((cert said : List ℕ) × AreTexts tells case cert said × (reached ≡ status.Done) × (new ≡ Some (with_said (with_file content name cert) said)))
-    ⊎ ((cert said : List ℕ) × AreNoneTexts case cert said × (reached ≡ status.NoneWithinYield) × (new ≡ Some (with_said (with_file content name cert) said)))
-    ⊎ ((answer : Answer) × IsEnd case answer × (reached ≡ answer.status) × (new ≡ Some (with_said content answer.text)))
-
--- what stands after a write that failed: the certificate's file is as before or holds a prefix of its text, and nothing was said; or
--- the file is whole, and a prefix of what is said then; or a prefix of a text was said, and no file changed
-abbrev pub IsPartPutOut : Content → List ℕ → Telling → Result CaseContents Refusal → Told → Type 0
-IsPartPutOut content name tells (Err refusal) new = SaidPart (Some content) (refused_text refusal) new
-IsPartPutOut content name tells (Ok case) new =
-    ((cert said : List ℕ) × AreTexts tells case cert said × (WrotePart (Some content) name cert new ⊎ SaidPart (Some (with_file content name cert)) said new))
-    ⊎ ((cert said : List ℕ) × AreNoneTexts case cert said × (WrotePart (Some content) name cert new ⊎ SaidPart (Some (with_file content name cert)) said new))
-    ⊎ ((answer : Answer) × IsEnd case answer × SaidPart (Some content) answer.text new)
 
 -- what is about to be written is accepted for the input files, by `check` or beside holdings by `check-held`
 abbrev pub IsAcceptedDraft : InputFiles → Draft → Type 0
@@ -181,54 +167,43 @@ abbrev pub FindsPlainFor : Told → FileNames → Draft → Type 0
 FindsPlainFor None names found = Unit {0}
 FindsPlainFor (Some content) names found = IsSomeAnd (inputs_of content names) (λ texts. FindsPlain (searched_of texts) found)
 
--- ---- what is put out, of a desk that tells or doesn't
+-- ---- what is put out
 -- the answer of a draft says that nothing was found
 abbrev pub IsStructuredDraft : Draft → Type 0
 IsStructuredDraft (draft.Found texts) = Unit {0}
 IsStructuredDraft (draft.NoneWithinYield texts) = Unit {0}
 IsStructuredDraft (draft.Said answer) = IsTrue (is_unfound answer.status)
 
--- a file was written whole, and then a text was said
-abbrev pub WroteAndSaid : Told → List ℕ → List ℕ → List ℕ → Told → Type 0
-WroteAndSaid old name cert report new = new ≡ told_map (λ content. with_said (with_file content name cert) report) old
+-- a draft that is put out, with the name of the certificate
+abbrev pub draft_outcome : List ℕ → Draft → Outcome
+draft_outcome name (draft.Found texts) = writing status.Done name texts.cert.items texts.said.items
+draft_outcome name (draft.NoneWithinYield texts) = writing status.NoneWithinYield name texts.cert.items texts.said.items
+draft_outcome name (draft.Said answer) = saying answer
 
--- a part of the file was written, or the file is whole and a part of the text was said
-abbrev pub WroteOrSaidPart : Told → List ℕ → List ℕ → List ℕ → Told → Type 0
-WroteOrSaidPart old name cert report new =
-    WrotePart old name cert new ⊎ SaidPart (told_map (λ content. with_file content name cert) old) report new
+-- the outcome for a case: the certificate of what was found is written, or of a tree which shows that there is no rival, and then that is
+-- said; or it is said why none is written. Or a file is refused
+abbrev pub IsSearchOutcome : List ℕ → Telling → Result CaseContents Refusal → Outcome → Type 0
+IsSearchOutcome name tells (Err refusal) outcome = outcome ≡ saying (refused refusal)
+IsSearchOutcome name tells (Ok case) outcome =
+    ((cert text : List ℕ) × AreTexts tells case cert text × (outcome ≡ writing status.Done name cert text))
+    ⊎ ((cert text : List ℕ) × AreNoneTexts case cert text × (outcome ≡ writing status.NoneWithinYield name cert text))
+    ⊎ ((answer : Answer) × IsEnd case answer × (outcome ≡ saying answer))
 
-abbrev pub PutsOut : Told → List ℕ → Draft → Status → Told → Type 0
-PutsOut old name (draft.Found texts) reached new = (reached ≡ status.Done) × WroteAndSaid old name texts.cert.items texts.said.items new
-PutsOut old name (draft.NoneWithinYield texts) reached new = (reached ≡ status.NoneWithinYield) × WroteAndSaid old name texts.cert.items texts.said.items new
-PutsOut old name (draft.Said answer) reached new = (reached ≡ answer.status) × SaidAll old answer.text new
+-- the same of the input files of names, where a desk tells
+abbrev pub IsStructureOutcome : Told → FileNames → Outcome → Type 0
+IsStructureOutcome told names outcome =
+    OfInputs (λ files. IsSearchOutcome names.cert (telling_for files.held) (searched_of files) outcome) told names
 
-abbrev pub PutsOutPart : Told → List ℕ → Draft → Told → Type 0
-PutsOutPart old name (draft.Found texts) new = WroteOrSaidPart old name texts.cert.items texts.said.items new
-PutsOutPart old name (draft.NoneWithinYield texts) new = WroteOrSaidPart old name texts.cert.items texts.said.items new
-PutsOutPart old name (draft.Said answer) new = SaidPart old answer.text new
-
--- the same where a desk tells, and the input files of the names are read
-abbrev pub Structures : Told → FileNames → Status → Told → Type 0
-Structures None names reached new = new ≡ None
-Structures (Some content) names reached new =
-    IsSomeAnd (inputs_of content names) (λ texts. IsPutOut content names.cert (telling_for texts.held) (searched_of texts) reached new)
-
--- what stands where a write failed, for the input files of the names
-abbrev pub StructuresPart : Told → FileNames → Told → Type 0
-StructuresPart None names new = new ≡ None
-StructuresPart (Some content) names new =
-    IsSomeAnd (inputs_of content names) (λ texts. IsPartPutOut content names.cert (telling_for texts.held) (searched_of texts) new)
-
--- the certificate's file of names now holds bytes that `check`, or beside holdings `check-held`, accepts for the input files as they were
-pub record HoldsAccepted (content after : Content) (names : FileNames) : Type 0 where
+-- the certificate's file of names now holds bytes that are accepted so for the input files as they were
+pub record HoldsAccepted (Accepts : InputFiles → List ℕ → Type 0) (content after : Content) (names : FileNames) : Type 0 where
   pub files : InputFiles
   pub cert : List ℕ
   pub there : AreThere content names files
   pub written : file_of after names.cert ≡ Some cert
-  pub is : IsAcceptedTextBeside files.held files cert
+  pub is : Accepts files cert
 
 -- the same where a desk tells
-abbrev pub WroteAccepted : Told → Told → FileNames → Type 0
-WroteAccepted None new names = Unit {0}
-WroteAccepted (Some content) None names = ⊥
-WroteAccepted (Some content) (Some after) names = HoldsAccepted content after names
+abbrev pub WroteAccepted : (InputFiles → List ℕ → Type 0) → Told → Told → FileNames → Type 0
+WroteAccepted Accepts None new names = Unit {0}
+WroteAccepted Accepts (Some content) None names = ⊥
+WroteAccepted Accepts (Some content) (Some after) names = HoldsAccepted Accepts content after names

@@ -7,15 +7,15 @@ ghost use Rattle.case_file.specs.Case.{HasTerms, case_view};
 ghost use Rattle.offer_book.specs.Portfolio.{IsPermitted};
 ghost use Rattle.rate_cap.specs.CaseAt.{slgs_rates};
 ghost use Rattle.rate_table.specs.Table.{IsTableRate};
-ghost use Rattle.certificate_answers.specs.Answer.{case_of, certificate_answer};
+ghost use Rattle.certificate_answers.specs.Answer.{case_of};
 ghost use Rattle.escrow_top.specs.Capped.{IsCappedDraft, IsCappedFor};
 ghost use Rattle.certificate_answers.specs.CaseOf.{AreWithin};
-ghost use Rattle.escrow_top.specs.Capping.{IsCapDraft, IsCapDraftFor, IsCapCertificate, IsCapDraftOf, IsCapEnded, IsUncappedStatus, cap_text as cap_text_of, next_line, obstacle_answer as obstacle_answer_of, obstacle_line, uncapped as uncapped_of};
+ghost use Rattle.escrow_top.specs.Capping.{IsCapDraft, IsCapDraftFor, IsCapDraftOf, IsCapEnded, IsUncappedStatus, cap_text as cap_text_of, next_line, obstacle_answer as obstacle_answer_of, obstacle_line, uncapped as uncapped_of};
 ghost use Rattle.certificate_answers.specs.Reading.{LacksInput, files_view, names_view};
 ghost use Rattle.certificate_answers.specs.Stopping.{CountsStep, is_unfound};
-ghost use Rattle.escrow_top.specs.Structure.{accepted_with};
+ghost use Rattle.escrow_top.specs.Structure.{IsFoundText};
 
-use crate::certificate_text::certificate_text;
+use crate::certificate_text::found_text;
 use crate::draft::Texts;
 use crate::unfound::{budget_spent, infeasible, none_within};
 use branch_search::{Watcher, found_laws, settled_laws};
@@ -88,16 +88,14 @@ fn cap_text(alloc: Global, greatest: &GreatestCap) -> Result<Vec<u8>, NoMemory>
 fn texts_of(alloc: Global, greatest: GreatestCap) -> Result<Texts, NoMemory>
     requires terms { HasTerms (case_view greatest.escrow.case) }
     requires found { IsFound (case_view greatest.escrow.case) greatest.escrow.found.plan greatest.escrow.found.tree greatest.escrow.found.gap }
-    ensures cert { IfOk result (λ texts. IsCapCertificate greatest texts.cert.items) }
+    ensures cert { IfOk result (λ texts. IsFoundText (case_view greatest.escrow.case) greatest.escrow.found.plan greatest.escrow.found.tree greatest.escrow.found.gap texts.cert.items) }
     ensures said { IfOk result (λ texts. texts.said.items ≡ cap_text_of greatest) }
-    ensures accepted { IfOk result (λ texts. certificate_answer (case_view greatest.escrow.case) texts.cert.items ≡ accepted_with (case_view greatest.escrow.case) greatest.escrow.found.plan greatest.escrow.found.gap) }
 {
     // A book keeps its limits.
     prove!(greatest.escrow.case.book.line_count() > 0);
     let said = cap_text(alloc, &greatest)?;
     let CappedEscrow { case, found, .. } = greatest.escrow;
-    let certificate = found.into_certificate(alloc, &case.book)?;
-    let cert = certificate_text(alloc, &certificate)?;
+    let cert = found_text(alloc, &case, found)?;
     Ok(Texts { cert, said })
 }
 

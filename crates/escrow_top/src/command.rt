@@ -1,10 +1,8 @@
 //! The words of a command line.
 
-ghost use Rattle.std.specs.Prelude.{◌≡◌, ◌∷◌, [], map, string_bytes, MatchOption};
-ghost use Rattle.escrow_top.specs.Command.{IsCommand};
-ghost use Rattle.escrow_top.specs.Ending.{IsNoCommand};
+ghost use Rattle.std.specs.Prelude.{◌≡◌, map, option_map, string_bytes};
+ghost use Rattle.escrow_top.specs.Command.{cap_of as cap_of_rate, command_of_five as command_of_five_words, command_of_six as command_of_six_words, command_of_words, command_view};
 ghost use Rattle.escrow_top.specs.MakeWords.{number_of_word};
-ghost use Rattle.certificate_answers.specs.Answer.{cap_of as cap_of_rate};
 ghost use Rattle.escrow_units.specs.NumberText.{rate_of};
 
 use crate::making::{MadeNames, Making};
@@ -54,8 +52,7 @@ fn command_of_five<'a>(
     third: &'a str,
     last: &'a str,
 ) -> Option<Command<'a>>
-    ensures { MatchOption result (IsNoCommand (word.now ∷ first.now ∷ second.now ∷ third.now ∷ last.now ∷ []))
-        (λ command. IsCommand command (word.now ∷ first.now ∷ second.now ∷ third.now ∷ last.now ∷ [])) }
+    ensures { option_map command_view result ≡ command_of_five_words word.now first.now second.now third.now last.now }
 {
     if word == "make" {
         let number = number_of(first)?;
@@ -100,8 +97,7 @@ fn command_of_six<'a>(
     fourth: &'a str,
     last: &'a str,
 ) -> Option<Command<'a>>
-    ensures { MatchOption result (IsNoCommand (word.now ∷ first.now ∷ second.now ∷ third.now ∷ fourth.now ∷ last.now ∷ []))
-        (λ command. IsCommand command (word.now ∷ first.now ∷ second.now ∷ third.now ∷ fourth.now ∷ last.now ∷ [])) }
+    ensures { option_map command_view result ≡ command_of_six_words word.now first.now second.now third.now fourth.now last.now }
 {
     if word == "check-cap" {
         let cap = cap_of(first)?;
@@ -126,7 +122,7 @@ fn command_of_six<'a>(
         return Some(Command::Structure(names));
     }
     if word == "check-held" {
-        let inquiry = Inquiry::Held;
+        let inquiry = Inquiry::Check;
         return Some(Command::Ask(Asking { inquiry, names }));
     }
     None
@@ -134,8 +130,7 @@ fn command_of_six<'a>(
 
 /// The command of words, which are read by their places; None where they are no command.
 pub(crate) fn command_of(words: &[String]) -> Option<Command<'_>>
-    ensures { MatchOption result (IsNoCommand (map string_bytes words.now))
-        (λ command. IsCommand command (map string_bytes words.now)) }
+    ensures { option_map command_view result ≡ command_of_words (map string_bytes words.now) }
 {
     match words {
         [word, first, second, third, last] => command_of_five(

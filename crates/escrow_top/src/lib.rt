@@ -5,6 +5,7 @@ mod capping;
 mod certificate_text;
 mod command;
 mod draft;
+mod effects;
 mod making;
 mod program;
 mod structure;

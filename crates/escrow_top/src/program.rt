@@ -1,30 +1,29 @@
 //! The one call, from words to a status.
 
-ghost use Rattle.std.specs.Prelude.{◌≡◌, ◌≢◌, ◌↔◌, map, string_bytes, IfSome, IsTrue, OnErr, OnOk};
-ghost use Rattle.escrow_desk.specs.Content.{SaidAll, SaidPart, told_map};
-ghost use Rattle.escrow_desk.specs.Counts.{AllSteady, CountsWrite};
-ghost use Rattle.certificate_answers.specs.Meaning.{MeansNo, MeansYes, OfNamedFiles};
-ghost use Rattle.certificate_answers.specs.Statuses.{is_checked};
-ghost use Rattle.escrow_top.specs.Ending.{Answers, AnswersPart, AskedAnswers, AskedAnswersPart, IsAccepted, IsAcceptedAtCap, IsAcceptedHolding, IsAnswerTo, IsCapped, IsNoCommand, IsNotAccepted, IsRolled, IsSaved, LacksFile, OfFiles, SaidOfFiles, WroteCertificate};
-ghost use Rattle.certificate_answers.specs.Accepted.{YesExactly};
-ghost use Rattle.certificate_answers.specs.Answer.{asking_of, cap_names, structure_names};
-ghost use Rattle.escrow_top.specs.Capped.{SaysNoCap, WroteCapped};
-ghost use Rattle.escrow_top.specs.Capping.{Caps, CapsPart, IsCapEnded, PutsOutCap, PutsOutCapPart};
-ghost use Rattle.escrow_top.specs.Structure.{IsStructuredDraft, PutsOut, PutsOutPart, Structures, StructuresPart, WroteAccepted, WroteAndSaid, WroteOrSaidPart};
-ghost use Rattle.escrow_top.specs.Settling.{OfCase, OfSearched, SaysReach, SettlesCovered, SettlesPlain};
-ghost use Rattle.escrow_top.specs.MakeWords.{make_words};
-ghost use Rattle.escrow_top.specs.Making.{HasAcceptedText, Makes, MakesPart, OfMadeCase, WroteFilesAndSaid, WroteFilesOrSaidPart, WroteSome, made_files, made_names_view, making_view, named_files, with_files};
+ghost use Rattle.std.specs.Prelude.{◌≡◌, ◌≢◌, ◌↔◌, codes, map, string_bytes, IfSome, IsTrue};
+ghost use Rattle.escrow_desk.specs.Counts.{AllSteady};
+ghost use Rattle.certificate_answers.specs.Accepted.{Accepted, IsAcceptedText};
+ghost use Rattle.certificate_answers.specs.Meaning.{OfNamedFiles};
+ghost use Rattle.certificate_answers.specs.NotAccepted.{NotAccepted};
 ghost use Rattle.certificate_answers.specs.Reading.{LacksAsked, LacksInput, asking_view, files_view, names_view};
 ghost use Rattle.certificate_answers.specs.Stopping.{EndedAs, is_reached, is_structured};
+ghost use Rattle.escrow_top.specs.Capping.{IsCapEnded, IsCapOutcome, cap_draft_outcome};
+ghost use Rattle.escrow_top.specs.Command.{command_of_words, command_view};
+ghost use Rattle.escrow_top.specs.Effects.{FailedIn, IsDone, Reaches, ReachesPart, effect_view, saying, writing};
+ghost use Rattle.escrow_top.specs.Ending.{AnswersBytes, IsAnswerTo, IsAskedOutcome, IsOutcome, LacksFile, OfNames, ReadsNoFile, SaidOfFiles, usage_answer};
+ghost use Rattle.escrow_top.specs.Making.{IsMadeOutcome, made_names_view, made_outcome, making_view};
+ghost use Rattle.escrow_top.specs.Means.{AskedMeans, CapMeans, IsFoundStatus, MakeMeans, Means, StructureMeans};
+ghost use Rattle.escrow_top.specs.Structure.{IsStructureOutcome, IsStructuredDraft, WroteAccepted, draft_outcome};
 
 use crate::capping::{CapDraft, cap};
 use crate::command::{Command, command_of};
 use crate::draft::{Draft, Texts};
+use crate::effects::{Effect, carry_all};
 use crate::making::{MadeDraft, MadeNames, Making, made};
 use crate::structure::structure;
 use branch_search::{Unwatched, Watcher};
-use certificate_answers::{Asking, FileNames, InputFiles, Status, check};
-use escrow_desk::{Desk, Failed, say_all, write_all};
+use certificate_answers::{Answer, Asking, FileNames, Status, check};
+use escrow_desk::Desk;
 use std::alloc::Global;
 
 // The words of each command; those that came later stand at the end.
@@ -34,35 +33,52 @@ const USAGE: &[u8] =
     | structure-held ISSUE RATES PRICES HELD CERT | check-held ISSUE RATES PRICES HELD CERT \
     | savings ISSUE RATES PRICES CERT\n";
 
-// Says the text of a status that was reached, and answers the status; `WriteFault` where a call of the desk failed.
-fn say_answer<D: Desk>(desk: &mut D, status: Status, text: &[u8]) -> Status
+// Does all that is to be done, and answers the status that was reached; `WriteFault` where a call of the desk failed.
+fn finish<D: Desk>(desk: &mut D, status: Status, effects: &[Effect<'_>]) -> Status
     requires { IsTrue (is_reached status) }
-    ensures status { IsTrue (is_reached result) → result ≡ status }
-    ensures said { IsTrue (is_reached result) → SaidAll (D.told desk.old) text.now (D.told desk.new) }
-    ensures part { result ≡ Status.WriteFault → SaidPart (D.told desk.old) text.now (D.told desk.new) }
+    ensures whole { IsTrue (is_reached result) → IsDone (D.told desk.old) (record { status = status; effects = map effect_view effects.now }) result (D.told desk.new) }
+    ensures part { result ≡ Status.WriteFault → FailedIn (D.told desk.old) (map effect_view effects.now) (D.told desk.new) }
     ensures no_other { (result ≡ Status.ReadFault → ⊥) × (result ≡ Status.NoFile → ⊥) × (result ≡ Status.NoMemory → ⊥) }
     ensures counts { EndedAs result (D.counts desk.old) (D.counts desk.new) (D.told desk.old) (D.told desk.new) }
 {
-    match say_all(desk, text) {
+    match carry_all(desk, effects) {
         Ok(()) => status,
         Err(_) => Status::WriteFault,
     }
 }
 
+// Says an answer.
+fn say_answer<D: Desk>(desk: &mut D, answer: &Answer) -> Status
+    requires { IsTrue (is_reached answer.now.status) }
+    ensures whole { IsTrue (is_reached result) → IsDone (D.told desk.old) (saying answer.now) result (D.told desk.new) }
+    ensures part { result ≡ Status.WriteFault → FailedIn (D.told desk.old) (saying answer.now).effects (D.told desk.new) }
+    ensures no_other { (result ≡ Status.ReadFault → ⊥) × (result ≡ Status.NoFile → ⊥) × (result ≡ Status.NoMemory → ⊥) }
+    ensures counts { EndedAs result (D.counts desk.old) (D.counts desk.new) (D.told desk.old) (D.told desk.new) }
+{
+    finish(desk, answer.status(), &[Effect::Say(answer.text())])
+}
+
+// Says how the program is used.
+fn say_usage<D: Desk>(desk: &mut D) -> Status
+    ensures whole { IsTrue (is_reached result) → IsDone (D.told desk.old) (saying usage_answer) result (D.told desk.new) }
+    ensures part { result ≡ Status.WriteFault → FailedIn (D.told desk.old) (saying usage_answer).effects (D.told desk.new) }
+    ensures no_other { (result ≡ Status.ReadFault → ⊥) × (result ≡ Status.NoFile → ⊥) × (result ≡ Status.NoMemory → ⊥) }
+    ensures counts { EndedAs result (D.counts desk.old) (D.counts desk.new) (D.told desk.old) (D.told desk.new) }
+{
+    finish(desk, Status::Usage, &[Effect::Say(USAGE)])
+}
+
 // Answers what is asked of the files of these names.
 fn run_asking<D: Desk>(alloc: Global, asking: &Asking<'_>, desk: &mut D) -> Status
-    ensures answers { IsTrue (is_reached result) → AskedAnswers (D.told desk.old) (asking_view asking.now) result (D.told desk.new) }
-    ensures part { result ≡ Status.WriteFault → AskedAnswersPart (D.told desk.old) (asking_view asking.now) (D.told desk.new) }
-    ensures lacks { result ≡ Status.NoFile → LacksAsked (D.told desk.old) (asking_view asking.now) }
-    ensures checked { IsTrue (is_reached result) → IsTrue (is_checked result) }
-    ensures yes { result ≡ Status.Done → SaidOfFiles (MeansYes asking.now.inquiry) (D.told desk.old) (names_view asking.now.names) (D.told desk.new) }
-    ensures no { result ≡ Status.No → SaidOfFiles (MeansNo asking.now.inquiry) (D.told desk.old) (names_view asking.now.names) (D.told desk.new) }
-    ensures exactly { IsTrue (is_reached result) → OfNamedFiles (YesExactly result asking.now.inquiry) (D.told desk.old) (names_view asking.now.names) }
+    ensures means { IsTrue (is_reached result) → AskedMeans (D.told desk.old) (asking_view asking.now) result (D.told desk.new) }
+    ensures answers { IsTrue (is_reached result) → Reaches (IsAskedOutcome (D.told desk.old) (asking_view asking.now)) (D.told desk.old) result (D.told desk.new) }
     ensures bytes { AllSteady (D.counts desk.old) (D.counts desk.new) → result ≢ Status.NoMemory → OfNamedFiles (IsAnswerTo (D.told desk.old) result (D.told desk.new) asking.now.inquiry) (D.told desk.old) (names_view asking.now.names) }
+    ensures part { result ≡ Status.WriteFault → ReachesPart (IsAskedOutcome (D.told desk.old) (asking_view asking.now)) (D.told desk.old) (D.told desk.new) }
+    ensures lacks { result ≡ Status.NoFile → LacksAsked (D.told desk.old) (asking_view asking.now) }
     ensures counts { EndedAs result (D.counts desk.old) (D.counts desk.new) (D.told desk.old) (D.told desk.new) }
 {
     match check(alloc, desk, asking) {
-        Ok(answer) => say_answer(desk, answer.status(), answer.text()),
+        Ok(answer) => say_answer(desk, &answer),
         Err(stop) => stop.status(),
     }
 }
@@ -70,15 +86,17 @@ fn run_asking<D: Desk>(alloc: Global, asking: &Asking<'_>, desk: &mut D) -> Stat
 // Writes a certificate whole, and then says the text of the status that was reached.
 fn put_out_texts<D: Desk>(desk: &mut D, name: &str, status: Status, texts: &Texts) -> Status
     requires { IsTrue (is_reached status) }
-    ensures whole { IsTrue (is_reached result) → (result ≡ status) × WroteAndSaid (D.told desk.old) name.now texts.now.cert.items texts.now.said.items (D.told desk.new) }
-    ensures part { result ≡ Status.WriteFault → WroteOrSaidPart (D.told desk.old) name.now texts.now.cert.items texts.now.said.items (D.told desk.new) }
+    ensures whole { IsTrue (is_reached result) → IsDone (D.told desk.old) (writing status name.now texts.now.cert.items texts.now.said.items) result (D.told desk.new) }
+    ensures part { result ≡ Status.WriteFault → FailedIn (D.told desk.old) (writing status name.now texts.now.cert.items texts.now.said.items).effects (D.told desk.new) }
     ensures no_other { (result ≡ Status.ReadFault → ⊥) × (result ≡ Status.NoFile → ⊥) × (result ≡ Status.NoMemory → ⊥) }
     ensures counts { EndedAs result (D.counts desk.old) (D.counts desk.new) (D.told desk.old) (D.told desk.new) }
 {
-    match write_all(desk, name, texts.cert.as_slice()) {
-        Ok(()) => say_answer(desk, status, texts.said.as_slice()),
-        Err(_) => Status::WriteFault,
-    }
+    let certificate = Effect::Write(name, texts.cert.as_slice());
+    finish(
+        desk,
+        status,
+        &[certificate, Effect::Say(texts.said.as_slice())],
+    )
 }
 
 // Puts out a draft: the texts of what was found, or what is said alone.
@@ -86,8 +104,8 @@ fn put_out_texts<D: Desk>(desk: &mut D, name: &str, status: Status, texts: &Text
 fn put_out<D: Desk>(desk: &mut D, name: &str, draft: &Draft) -> Status
     requires { IsStructuredDraft draft.now }
     ensures structured { IsTrue (is_reached result) → IsTrue (is_structured result) }
-    ensures whole { IsTrue (is_reached result) → PutsOut (D.told desk.old) name.now draft.now result (D.told desk.new) }
-    ensures part { result ≡ Status.WriteFault → PutsOutPart (D.told desk.old) name.now draft.now (D.told desk.new) }
+    ensures whole { IsTrue (is_reached result) → IsDone (D.told desk.old) (draft_outcome name.now draft.now) result (D.told desk.new) }
+    ensures part { result ≡ Status.WriteFault → FailedIn (D.told desk.old) (draft_outcome name.now draft.now).effects (D.told desk.new) }
     ensures no_other { (result ≡ Status.ReadFault → ⊥) × (result ≡ Status.NoFile → ⊥) × (result ≡ Status.NoMemory → ⊥) }
     ensures counts { EndedAs result (D.counts desk.old) (D.counts desk.new) (D.told desk.old) (D.told desk.new) }
 {
@@ -96,7 +114,7 @@ fn put_out<D: Desk>(desk: &mut D, name: &str, draft: &Draft) -> Status
         Draft::NoneWithinYield(texts) => {
             put_out_texts(desk, name, Status::NoneWithinYield, texts)
         }
-        Draft::Said(answer) => say_answer(desk, answer.status(), answer.text()),
+        Draft::Said(answer) => say_answer(desk, answer),
     }
 }
 
@@ -104,14 +122,14 @@ fn put_out<D: Desk>(desk: &mut D, name: &str, draft: &Draft) -> Status
 fn put_out_cap<D: Desk>(desk: &mut D, name: &str, draft: &CapDraft) -> Status
     requires { IsCapEnded draft.now }
     ensures structured { IsTrue (is_reached result) → IsTrue (is_structured result) }
-    ensures whole { IsTrue (is_reached result) → PutsOutCap (D.told desk.old) name.now draft.now result (D.told desk.new) }
-    ensures part { result ≡ Status.WriteFault → PutsOutCapPart (D.told desk.old) name.now draft.now (D.told desk.new) }
+    ensures whole { IsTrue (is_reached result) → IsDone (D.told desk.old) (cap_draft_outcome name.now draft.now) result (D.told desk.new) }
+    ensures part { result ≡ Status.WriteFault → FailedIn (D.told desk.old) (cap_draft_outcome name.now draft.now).effects (D.told desk.new) }
     ensures no_other { (result ≡ Status.ReadFault → ⊥) × (result ≡ Status.NoFile → ⊥) × (result ≡ Status.NoMemory → ⊥) }
     ensures counts { EndedAs result (D.counts desk.old) (D.counts desk.new) (D.told desk.old) (D.told desk.new) }
 {
     match draft {
         CapDraft::Found(texts) => put_out_texts(desk, name, Status::Done, texts),
-        CapDraft::Said(answer) => say_answer(desk, answer.status(), answer.text()),
+        CapDraft::Said(answer) => say_answer(desk, answer),
     }
 }
 
@@ -122,15 +140,10 @@ fn run_structure<D: Desk, W: Watcher>(
     desk: &mut D,
     watcher: &mut W,
 ) -> Status
-    ensures answers { IsTrue (is_reached result) → Structures (D.told desk.old) (names_view names.now) result (D.told desk.new) }
-    ensures part { result ≡ Status.WriteFault → StructuresPart (D.told desk.old) (names_view names.now) (D.told desk.new) }
+    ensures means { IsTrue (is_reached result) → StructureMeans (D.told desk.old) (names_view names.now) result (D.told desk.new) }
+    ensures answers { IsTrue (is_reached result) → Reaches (IsStructureOutcome (D.told desk.old) (names_view names.now)) (D.told desk.old) result (D.told desk.new) }
+    ensures part { result ≡ Status.WriteFault → ReachesPart (IsStructureOutcome (D.told desk.old) (names_view names.now)) (D.told desk.old) (D.told desk.new) }
     ensures lacks { result ≡ Status.NoFile → LacksInput (D.told desk.old) (names_view names.now) }
-    ensures structured { IsTrue (is_reached result) → IsTrue (is_structured result) }
-    ensures wrote { result ≡ Status.Done → WroteAccepted (D.told desk.old) (D.told desk.new) (names_view names.now) }
-    ensures wrote_none { result ≡ Status.NoneWithinYield → WroteAccepted (D.told desk.old) (D.told desk.new) (names_view names.now) }
-    ensures plain { IsTrue (is_reached result) → OfSearched (SettlesPlain result) (D.told desk.old) (names_view names.now) }
-    ensures covered { IsTrue (is_reached result) → OfSearched (SettlesCovered result) (D.told desk.old) (names_view names.now) }
-    ensures reach { IsTrue (is_reached result) → OfSearched (SaysReach result) (D.told desk.old) (names_view names.now) }
     ensures counts { EndedAs result (D.counts desk.old) (D.counts desk.new) (D.told desk.old) (D.told desk.new) }
 {
     match structure(alloc, desk, names, watcher) {
@@ -146,12 +159,10 @@ fn run_cap<D: Desk, W: Watcher>(
     desk: &mut D,
     watcher: &mut W,
 ) -> Status
-    ensures answers { IsTrue (is_reached result) → Caps (D.told desk.old) (names_view names.now) result (D.told desk.new) }
-    ensures part { result ≡ Status.WriteFault → CapsPart (D.told desk.old) (names_view names.now) (D.told desk.new) }
+    ensures means { IsTrue (is_reached result) → CapMeans (D.told desk.old) (names_view names.now) result (D.told desk.new) }
+    ensures answers { IsTrue (is_reached result) → Reaches (IsCapOutcome (D.told desk.old) (names_view names.now)) (D.told desk.old) result (D.told desk.new) }
+    ensures part { result ≡ Status.WriteFault → ReachesPart (IsCapOutcome (D.told desk.old) (names_view names.now)) (D.told desk.old) (D.told desk.new) }
     ensures lacks { result ≡ Status.NoFile → LacksInput (D.told desk.old) (names_view names.now) }
-    ensures structured { IsTrue (is_reached result) → IsTrue (is_structured result) }
-    ensures capped { result ≡ Status.Done → WroteCapped (D.told desk.old) (D.told desk.new) (names_view names.now) }
-    ensures uncapped { IsTrue (is_reached result) → OfCase (SaysNoCap result) (D.told desk.old) (names_view names.now) }
     ensures counts { EndedAs result (D.counts desk.old) (D.counts desk.new) (D.told desk.old) (D.told desk.new) }
 {
     match cap(alloc, desk, names, watcher) {
@@ -160,33 +171,21 @@ fn run_cap<D: Desk, W: Watcher>(
     }
 }
 
-// Writes the files of a case whole, one after another.
-fn write_files<D: Desk>(
-    desk: &mut D,
-    names: &MadeNames<'_>,
-    files: &InputFiles,
-) -> Result<(), Failed>
-    ensures whole { OnOk result (D.told desk.new ≡ told_map (with_files (named_files (made_names_view names.now) (files_view files.now))) (D.told desk.old)) }
-    ensures part { OnErr result (WroteSome (D.told desk.old) (named_files (made_names_view names.now) (files_view files.now)) (D.told desk.new)) }
-    ensures counts { CountsWrite result (D.counts desk.old) (D.counts desk.new) }
-{
-    write_all(desk, names.issue, files.issue.as_slice())?;
-    write_all(desk, names.rates, files.rates.as_slice())?;
-    write_all(desk, names.prices, files.prices.as_slice())
-}
-
 // Writes the files of a case whole, and then says the answer.
 fn put_out_made<D: Desk>(desk: &mut D, names: &MadeNames<'_>, draft: &MadeDraft) -> Status
     requires { IsTrue (is_reached draft.now.answer.status) }
-    ensures whole { IsTrue (is_reached result) → (result ≡ draft.now.answer.status) × WroteFilesAndSaid (D.told desk.old) (named_files (made_names_view names.now) (files_view draft.now.files)) draft.now.answer.text (D.told desk.new) }
-    ensures part { result ≡ Status.WriteFault → WroteFilesOrSaidPart (D.told desk.old) (named_files (made_names_view names.now) (files_view draft.now.files)) draft.now.answer.text (D.told desk.new) }
+    ensures whole { IsTrue (is_reached result) → IsDone (D.told desk.old) (made_outcome (made_names_view names.now) (files_view draft.now.files) draft.now.answer) result (D.told desk.new) }
+    ensures part { result ≡ Status.WriteFault → FailedIn (D.told desk.old) (made_outcome (made_names_view names.now) (files_view draft.now.files) draft.now.answer).effects (D.told desk.new) }
     ensures no_other { (result ≡ Status.ReadFault → ⊥) × (result ≡ Status.NoFile → ⊥) × (result ≡ Status.NoMemory → ⊥) }
     ensures counts { EndedAs result (D.counts desk.old) (D.counts desk.new) (D.told desk.old) (D.told desk.new) }
 {
-    match write_files(desk, names, &draft.files) {
-        Ok(()) => say_answer(desk, draft.answer.status(), draft.answer.text()),
-        Err(_) => Status::WriteFault,
-    }
+    let effects = [
+        Effect::Write(names.issue, draft.files.issue.as_slice()),
+        Effect::Write(names.rates, draft.files.rates.as_slice()),
+        Effect::Write(names.prices, draft.files.prices.as_slice()),
+        Effect::Say(draft.answer.text()),
+    ];
+    finish(desk, draft.answer.status(), &effects)
 }
 
 // Carries `make` out.
@@ -196,20 +195,38 @@ fn run_make<D: Desk, W: Watcher>(
     desk: &mut D,
     watcher: &mut W,
 ) -> Status
-    ensures answers { IsTrue (is_reached result) → Makes (D.told desk.old) (making_view making.now) result (D.told desk.new) }
-    ensures part { result ≡ Status.WriteFault → MakesPart (D.told desk.old) (making_view making.now) (D.told desk.new) }
+    ensures means { IsTrue (is_reached result) → MakeMeans (making_view making.now) result }
+    ensures answers { IsTrue (is_reached result) → Reaches (IsMadeOutcome (making_view making.now)) (D.told desk.old) result (D.told desk.new) }
+    ensures part { result ≡ Status.WriteFault → ReachesPart (IsMadeOutcome (making_view making.now)) (D.told desk.old) (D.told desk.new) }
     ensures no_read { (result ≡ Status.ReadFault → ⊥) × (result ≡ Status.NoFile → ⊥) }
-    ensures structured { IsTrue (is_reached result) → IsTrue (is_structured result) }
-    ensures made { result ≡ Status.Done → HasAcceptedText (made_files making.now.number) }
-    ensures made_none { result ≡ Status.NoneWithinYield → HasAcceptedText (made_files making.now.number) }
-    ensures plain { IsTrue (is_reached result) → OfMadeCase (SettlesPlain result) (making_view making.now) }
-    ensures covered { IsTrue (is_reached result) → OfMadeCase (SettlesCovered result) (making_view making.now) }
-    ensures reach { IsTrue (is_reached result) → OfMadeCase (SaysReach result) (making_view making.now) }
     ensures counts { EndedAs result (D.counts desk.old) (D.counts desk.new) (D.told desk.old) (D.told desk.new) }
 {
     match made(alloc, making.number, watcher) {
         Ok(draft) => put_out_made(desk, &making.names, &draft),
         Err(_) => Status::NoMemory,
+    }
+}
+
+// Carries a command out.
+fn carry_out<D: Desk, W: Watcher>(
+    alloc: Global,
+    command: &Command<'_>,
+    desk: &mut D,
+    watcher: &mut W,
+) -> Status
+    ensures means { IsTrue (is_reached result) → Means (D.told desk.old) (command_view command.now) result (D.told desk.new) }
+    ensures answers { IsTrue (is_reached result) → Reaches (IsOutcome (D.told desk.old) (Some (command_view command.now))) (D.told desk.old) result (D.told desk.new) }
+    ensures bytes { AllSteady (D.counts desk.old) (D.counts desk.new) → result ≢ Status.NoMemory → AnswersBytes (D.told desk.old) (command_view command.now) result (D.told desk.new) }
+    ensures part { result ≡ Status.WriteFault → ReachesPart (IsOutcome (D.told desk.old) (Some (command_view command.now))) (D.told desk.old) (D.told desk.new) }
+    ensures lacks { result ≡ Status.NoFile → LacksFile (D.told desk.old) (Some (command_view command.now)) }
+    ensures no_read { ReadsNoFile (command_view command.now) result }
+    ensures counts { EndedAs result (D.counts desk.old) (D.counts desk.new) (D.told desk.old) (D.told desk.new) }
+{
+    match command {
+        Command::Structure(names) => run_structure(alloc, names, desk, watcher),
+        Command::Cap(names) => run_cap(alloc, names, desk, watcher),
+        Command::Ask(asking) => run_asking(alloc, asking, desk),
+        Command::Make(making) => run_make(alloc, making, desk, watcher),
     }
 }
 
@@ -235,56 +252,26 @@ fn run_make<D: Desk, W: Watcher>(
 /// It returns for all words and every desk. It writes no file but the certificate of `structure`, `structure-held` or `cap` and the files of
 /// `make`, and all texts are built before. The texts are this project's own.
 pub fn run<D: Desk>(alloc: Global, words: &[String], desk: &mut D) -> Status
-    // Where the run wasn't cut off, the status and what was said are the answer to the words over the desk's content.
-    ensures answers { IsTrue (is_reached result) → Answers (D.told desk.old) (map string_bytes words.now) result (D.told desk.new) }
-    // What `yes` means, of the bytes of the four files.
-    ensures yes { result ≡ Status.Done → IsAccepted (D.told desk.old) (map string_bytes words.now) (D.told desk.new) }
-    // `structure` writes only certificates that `check` accepts, and `structure-held` those that `check-held` accepts.
-    ensures wrote { result ≡ Status.Done → WroteCertificate (D.told desk.old) (D.told desk.new) (map string_bytes words.now) }
-    ensures wrote_none { result ≡ Status.NoneWithinYield → WroteCertificate (D.told desk.old) (D.told desk.new) (map string_bytes words.now) }
-    // On a plain case, whose issue allows at least its gap, it writes one with a portfolio.
-    ensures plain { IsTrue (is_reached result) → IfSome (structure_names (map string_bytes words.now)) (OfSearched (SettlesPlain result) (D.told desk.old)) }
-    // Where the budget covers the halving tree, or all permitted portfolios twice, it writes one, with a portfolio or without.
-    ensures covered { IsTrue (is_reached result) → IfSome (structure_names (map string_bytes words.now)) (OfSearched (SettlesCovered result) (D.told desk.old)) }
-    // `infeasible` comes exactly where no permitted portfolio meets the needs.
-    ensures reach { IsTrue (is_reached result) → IfSome (structure_names (map string_bytes words.now)) (OfSearched (SaysReach result) (D.told desk.old)) }
-    // What `cap` means where it writes a certificate: by how much the rates are lowered, and why by no less.
-    ensures capped { result ≡ Status.Done → IsCapped (D.told desk.old) (map string_bytes words.now) (D.told desk.new) }
-    // And what it means where it writes none: nothing was found for the case at cap 0, nor for the case itself, and why.
-    ensures uncapped { IsTrue (is_reached result) → IfSome (cap_names (map string_bytes words.now)) (OfCase (SaysNoCap result) (D.told desk.old)) }
-    // Of what `make` finds there is a certificate that `check` accepts for the files of the number.
-    ensures made { result ≡ Status.Done → IfSome (make_words (map string_bytes words.now)) (λ making. HasAcceptedText (made_files making.number)) }
-    ensures made_none { result ≡ Status.NoneWithinYield → IfSome (make_words (map string_bytes words.now)) (λ making. HasAcceptedText (made_files making.number)) }
-    // It answers as `structure` would on these files.
-    ensures made_plain { IsTrue (is_reached result) → IfSome (make_words (map string_bytes words.now)) (OfMadeCase (SettlesPlain result)) }
-    ensures made_covered { IsTrue (is_reached result) → IfSome (make_words (map string_bytes words.now)) (OfMadeCase (SettlesCovered result)) }
-    ensures made_reach { IsTrue (is_reached result) → IfSome (make_words (map string_bytes words.now)) (OfMadeCase (SaysReach result)) }
-    // What `no` means: which reason stands, and that no earlier one does.
-    ensures no { result ≡ Status.No → IsNotAccepted (D.told desk.old) (map string_bytes words.now) (D.told desk.new) }
-    // What `savings` means by its four lines, of the bytes of the four files: they are accepted, and this is what is saved.
-    ensures saved { result ≡ Status.Done → IsSaved (D.told desk.old) (map string_bytes words.now) (D.told desk.new) }
-    // What `roll` means by its lines, of the bytes of the four files: they are accepted, and these are the rolls, which leave the
-    // needs met and the yield no higher.
-    ensures rolled { result ≡ Status.Done → IsRolled (D.told desk.old) (map string_bytes words.now) (D.told desk.new) }
-    // What `yes` means to `check-held`, of the case beside the holdings: with them the needs are met, and no held rival costs less by more
-    // than the gap.
-    ensures yes_beside { result ≡ Status.Done → IsAcceptedHolding (D.told desk.old) (map string_bytes words.now) (D.told desk.new) }
-    // What `yes` means to `check-cap`, of the case of the files at the cap.
-    ensures yes_at_cap { result ≡ Status.Done → IsAcceptedAtCap (D.told desk.old) (map string_bytes words.now) (D.told desk.new) }
-    // They end as `Done` exactly where no reason stands.
-    ensures exactly { IsTrue (is_reached result) → OfFiles (YesExactly result) (D.told desk.old) (map string_bytes words.now) }
-    // Where no call of the desk failed and memory lasted, they say of four files that are there the answer to their bytes.
-    ensures bytes { AllSteady (D.counts desk.old) (D.counts desk.new) → result ≢ Status.NoMemory → OfFiles (IsAnswerTo (D.told desk.old) result (D.told desk.new)) (D.told desk.old) (map string_bytes words.now) }
-    ensures part { result ≡ Status.WriteFault → AnswersPart (D.told desk.old) (map string_bytes words.now) (D.told desk.new) }
-    ensures lacks { result ≡ Status.NoFile → LacksFile (D.told desk.old) (map string_bytes words.now) }
-    ensures usage { IsTrue (is_reached result) → ((result ≡ Status.Usage) ↔ IsNoCommand (map string_bytes words.now)) }
-    // Whatever the desk tells: which statuses a command comes to.
-    ensures structured { IsTrue (is_reached result) → IfSome (structure_names (map string_bytes words.now)) (λ _. IsTrue (is_structured result)) }
-    ensures caps { IsTrue (is_reached result) → IfSome (cap_names (map string_bytes words.now)) (λ _. IsTrue (is_structured result)) }
-    ensures checked { IsTrue (is_reached result) → IfSome (asking_of (map string_bytes words.now)) (λ _. IsTrue (is_checked result)) }
-    ensures makes { IsTrue (is_reached result) → IfSome (make_words (map string_bytes words.now)) (λ _. IsTrue (is_structured result)) }
+    // What `yes` means to `check`, of the bytes of the four files.
+    ensures yes { result ≡ Status.Done → OfNames (codes "check") (λ names. SaidOfFiles Accepted (D.told desk.old) names (D.told desk.new)) (map string_bytes words.now) }
+    // What `no` means to it: which reason stands, and that no earlier one does.
+    ensures no { result ≡ Status.No → OfNames (codes "check") (λ names. SaidOfFiles NotAccepted (D.told desk.old) names (D.told desk.new)) (map string_bytes words.now) }
+    // `structure` writes only certificates that `check` accepts.
+    ensures wrote { IsFoundStatus result → OfNames (codes "structure") (WroteAccepted IsAcceptedText (D.told desk.old) (D.told desk.new)) (map string_bytes words.now) }
+    // What the status means to each command.
+    ensures means { IsTrue (is_reached result) → IfSome (command_of_words (map string_bytes words.now)) (λ command. Means (D.told desk.old) command result (D.told desk.new)) }
+    // The status is `Usage` exactly where the words are no command.
+    ensures usage { IsTrue (is_reached result) → ((result ≡ Status.Usage) ↔ (command_of_words (map string_bytes words.now) ≡ None)) }
+    // Where the run wasn't cut off, the status and what stands then are the answer to the words over the desk's content.
+    ensures answers { IsTrue (is_reached result) → Reaches (IsOutcome (D.told desk.old) (command_of_words (map string_bytes words.now))) (D.told desk.old) result (D.told desk.new) }
+    // Where no call of the desk failed and memory lasted, what is asked of four files that are there is answered by their bytes.
+    ensures bytes { AllSteady (D.counts desk.old) (D.counts desk.new) → result ≢ Status.NoMemory → IfSome (command_of_words (map string_bytes words.now)) (λ command. AnswersBytes (D.told desk.old) command result (D.told desk.new)) }
+    // Where a write failed, a part of the answer stands.
+    ensures part { result ≡ Status.WriteFault → ReachesPart (IsOutcome (D.told desk.old) (command_of_words (map string_bytes words.now))) (D.told desk.old) (D.told desk.new) }
+    // A file isn't there only where a command reads it.
+    ensures lacks { result ≡ Status.NoFile → LacksFile (D.told desk.old) (command_of_words (map string_bytes words.now)) }
     // `make` reads no file.
-    ensures no_read { IfSome (make_words (map string_bytes words.now)) (λ _. (result ≡ Status.ReadFault → ⊥) × (result ≡ Status.NoFile → ⊥)) }
+    ensures no_read { IfSome (command_of_words (map string_bytes words.now)) (λ command. ReadsNoFile command result) }
     // Each way of being cut off has its cause: a count of the desk that rose in this call, or stands at its last value.
     ensures counts { EndedAs result (D.counts desk.old) (D.counts desk.new) (D.told desk.old) (D.told desk.new) }
 {
@@ -300,42 +287,20 @@ pub fn run_watched<D: Desk, W: Watcher>(
     desk: &mut D,
     watcher: &mut W,
 ) -> Status
-    ensures answers { IsTrue (is_reached result) → Answers (D.told desk.old) (map string_bytes words.now) result (D.told desk.new) }
-    ensures yes { result ≡ Status.Done → IsAccepted (D.told desk.old) (map string_bytes words.now) (D.told desk.new) }
-    ensures wrote { result ≡ Status.Done → WroteCertificate (D.told desk.old) (D.told desk.new) (map string_bytes words.now) }
-    ensures wrote_none { result ≡ Status.NoneWithinYield → WroteCertificate (D.told desk.old) (D.told desk.new) (map string_bytes words.now) }
-    ensures plain { IsTrue (is_reached result) → IfSome (structure_names (map string_bytes words.now)) (OfSearched (SettlesPlain result) (D.told desk.old)) }
-    ensures covered { IsTrue (is_reached result) → IfSome (structure_names (map string_bytes words.now)) (OfSearched (SettlesCovered result) (D.told desk.old)) }
-    ensures reach { IsTrue (is_reached result) → IfSome (structure_names (map string_bytes words.now)) (OfSearched (SaysReach result) (D.told desk.old)) }
-    ensures capped { result ≡ Status.Done → IsCapped (D.told desk.old) (map string_bytes words.now) (D.told desk.new) }
-    ensures uncapped { IsTrue (is_reached result) → IfSome (cap_names (map string_bytes words.now)) (OfCase (SaysNoCap result) (D.told desk.old)) }
-    ensures made { result ≡ Status.Done → IfSome (make_words (map string_bytes words.now)) (λ making. HasAcceptedText (made_files making.number)) }
-    ensures made_none { result ≡ Status.NoneWithinYield → IfSome (make_words (map string_bytes words.now)) (λ making. HasAcceptedText (made_files making.number)) }
-    ensures made_plain { IsTrue (is_reached result) → IfSome (make_words (map string_bytes words.now)) (OfMadeCase (SettlesPlain result)) }
-    ensures made_covered { IsTrue (is_reached result) → IfSome (make_words (map string_bytes words.now)) (OfMadeCase (SettlesCovered result)) }
-    ensures made_reach { IsTrue (is_reached result) → IfSome (make_words (map string_bytes words.now)) (OfMadeCase (SaysReach result)) }
-    ensures no { result ≡ Status.No → IsNotAccepted (D.told desk.old) (map string_bytes words.now) (D.told desk.new) }
-    ensures saved { result ≡ Status.Done → IsSaved (D.told desk.old) (map string_bytes words.now) (D.told desk.new) }
-    ensures rolled { result ≡ Status.Done → IsRolled (D.told desk.old) (map string_bytes words.now) (D.told desk.new) }
-    ensures yes_beside { result ≡ Status.Done → IsAcceptedHolding (D.told desk.old) (map string_bytes words.now) (D.told desk.new) }
-    ensures yes_at_cap { result ≡ Status.Done → IsAcceptedAtCap (D.told desk.old) (map string_bytes words.now) (D.told desk.new) }
-    ensures exactly { IsTrue (is_reached result) → OfFiles (YesExactly result) (D.told desk.old) (map string_bytes words.now) }
-    ensures bytes { AllSteady (D.counts desk.old) (D.counts desk.new) → result ≢ Status.NoMemory → OfFiles (IsAnswerTo (D.told desk.old) result (D.told desk.new)) (D.told desk.old) (map string_bytes words.now) }
-    ensures part { result ≡ Status.WriteFault → AnswersPart (D.told desk.old) (map string_bytes words.now) (D.told desk.new) }
-    ensures lacks { result ≡ Status.NoFile → LacksFile (D.told desk.old) (map string_bytes words.now) }
-    ensures usage { IsTrue (is_reached result) → ((result ≡ Status.Usage) ↔ IsNoCommand (map string_bytes words.now)) }
-    ensures structured { IsTrue (is_reached result) → IfSome (structure_names (map string_bytes words.now)) (λ _. IsTrue (is_structured result)) }
-    ensures caps { IsTrue (is_reached result) → IfSome (cap_names (map string_bytes words.now)) (λ _. IsTrue (is_structured result)) }
-    ensures checked { IsTrue (is_reached result) → IfSome (asking_of (map string_bytes words.now)) (λ _. IsTrue (is_checked result)) }
-    ensures makes { IsTrue (is_reached result) → IfSome (make_words (map string_bytes words.now)) (λ _. IsTrue (is_structured result)) }
-    ensures no_read { IfSome (make_words (map string_bytes words.now)) (λ _. (result ≡ Status.ReadFault → ⊥) × (result ≡ Status.NoFile → ⊥)) }
+    ensures yes { result ≡ Status.Done → OfNames (codes "check") (λ names. SaidOfFiles Accepted (D.told desk.old) names (D.told desk.new)) (map string_bytes words.now) }
+    ensures no { result ≡ Status.No → OfNames (codes "check") (λ names. SaidOfFiles NotAccepted (D.told desk.old) names (D.told desk.new)) (map string_bytes words.now) }
+    ensures wrote { IsFoundStatus result → OfNames (codes "structure") (WroteAccepted IsAcceptedText (D.told desk.old) (D.told desk.new)) (map string_bytes words.now) }
+    ensures means { IsTrue (is_reached result) → IfSome (command_of_words (map string_bytes words.now)) (λ command. Means (D.told desk.old) command result (D.told desk.new)) }
+    ensures usage { IsTrue (is_reached result) → ((result ≡ Status.Usage) ↔ (command_of_words (map string_bytes words.now) ≡ None)) }
+    ensures answers { IsTrue (is_reached result) → Reaches (IsOutcome (D.told desk.old) (command_of_words (map string_bytes words.now))) (D.told desk.old) result (D.told desk.new) }
+    ensures bytes { AllSteady (D.counts desk.old) (D.counts desk.new) → result ≢ Status.NoMemory → IfSome (command_of_words (map string_bytes words.now)) (λ command. AnswersBytes (D.told desk.old) command result (D.told desk.new)) }
+    ensures part { result ≡ Status.WriteFault → ReachesPart (IsOutcome (D.told desk.old) (command_of_words (map string_bytes words.now))) (D.told desk.old) (D.told desk.new) }
+    ensures lacks { result ≡ Status.NoFile → LacksFile (D.told desk.old) (command_of_words (map string_bytes words.now)) }
+    ensures no_read { IfSome (command_of_words (map string_bytes words.now)) (λ command. ReadsNoFile command result) }
     ensures counts { EndedAs result (D.counts desk.old) (D.counts desk.new) (D.told desk.old) (D.told desk.new) }
 {
     match command_of(words) {
-        None => say_answer(desk, Status::Usage, USAGE),
-        Some(Command::Structure(names)) => run_structure(alloc, &names, desk, watcher),
-        Some(Command::Cap(names)) => run_cap(alloc, &names, desk, watcher),
-        Some(Command::Ask(asking)) => run_asking(alloc, &asking, desk),
-        Some(Command::Make(making)) => run_make(alloc, &making, desk, watcher),
+        None => say_usage(desk),
+        Some(command) => carry_out(alloc, &command, desk, watcher),
     }
 }

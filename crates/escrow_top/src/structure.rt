@@ -12,7 +12,7 @@ ghost use Rattle.certificate_answers.specs.Reading.{LacksInput, files_view, name
 ghost use Rattle.escrow_top.specs.Structure.{AreNoneTexts, AreTexts, FindsPlain, FindsPlainFor, IsAcceptedDraft, IsAcceptedFor, IsDraft, IsDraftFor, IsDraftOf, IsFoundDraft, IsStructuredDraft, told_text as told_text_of, telling_for as telling_of};
 ghost use Rattle.certificate_answers.specs.Stopping.{CountsStep};
 
-use crate::certificate_text::certificate_text;
+use crate::certificate_text::{certificate_text, found_text};
 use crate::draft::{Draft, Telling, Texts};
 use crate::unfound::{budget_spent, infeasible, none_within};
 use bound_certificate::Certificate;
@@ -60,8 +60,7 @@ fn texts_of(alloc: Global, tells: Telling, case: &Case, found: Found) -> Result<
     ensures { IfOk result (λ texts. AreTexts tells (case_view case.now) texts.cert.items texts.said.items) }
 {
     let said = told_text(alloc, tells, case, &found)?;
-    let certificate = found.into_certificate(alloc, &case.book)?;
-    let cert = certificate_text(alloc, &certificate)?;
+    let cert = found_text(alloc, case, found)?;
     Ok(Texts { cert, said })
 }
 
@@ -147,8 +146,8 @@ fn draft_of_files<W: Watcher>(
     ensures plain { IfOk result (FindsPlain (searched_of (files_view files.now))) }
     ensures status { IfOk result IsStructuredDraft }
 {
-    // Beside the holdings, where they are given.
-    match judged_case(alloc, Inquiry::Held, files) {
+    // The case by which `check` judges: beside the holdings, where they are given.
+    match judged_case(alloc, Inquiry::Check, files) {
         Ok(case) => draft_of_case(alloc, telling_for(files), &case, watcher),
         Err(CaseError::Refused(refusal)) => Ok(Draft::Said(refused(alloc, &refusal)?)),
         Err(CaseError::NoMemory) => Err(NoMemory),

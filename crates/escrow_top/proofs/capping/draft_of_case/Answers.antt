@@ -14,7 +14,7 @@ returns-in_ok-texts_of-in-Found-clause-draft g c =
     let texts = c.in_ok-texts_of-in-Found in
     let end = rw c.in-Found.is at c.in_ok-greatest.ensures.end in
     cap_texts laws (case_view c.args.case.now) end.top c.in-Found.greatest texts.field-0.cert.items texts.field-0.said.items c.line_count.ensures.limits c.requires.terms
-    end.is_top end.comes_to texts.ensures.cert texts.ensures.said texts.ensures.accepted
+    end.is_top end.comes_to texts.ensures.cert texts.ensures.said
 
 pub returns-in_ok-uncapped-in-NoneFound-clause-draft : goal.returns-in_ok-uncapped-in-NoneFound-clause-draft
 returns-in_ok-uncapped-in-NoneFound-clause-draft g c =

@@ -1,254 +1,99 @@
-use Rattle.std.proofs.Common.{map, string_bytes}
-use Rattle.escrow_top.proofs.AskedLaws.{asked_exactly, none_exactly}
-use Rattle.escrow_top.proofs.WordLaws.{asking-caps_none, cap-askings_none, cap-check_caps_none, cap-check_helds_none, cap-checks_none, cap-makes_none, cap-rolls_none, cap-savings_none, cap-structures_none, make-askings_none, make-caps_none, make-check_caps_none, make-check_helds_none, make-checks_none, make-rolls_none, make-savings_none, make-structures_none, structure-askings_none, structure-caps_none}
+use Rattle.std.proofs.Common.{◌≡◌, ◌∙◌, None, Some, map, refl, string_bytes, subst, sym}
+use Rattle.std.specs.Prelude.{IfSome, Option}
+use Rattle.certificate_answers.specs.declared.status.Status.TheVariants as status
+use Rattle.escrow_top.specs.Command.{Command, command_of_words, command_view}
+use Rattle.escrow_top.specs.Effects.{Reaches, ReachesPart, saying}
+use Rattle.escrow_top.specs.Ending.{AnswersBytes, IsOutcome, LacksFile, ReadsNoFile, usage_answer}
+use Rattle.escrow_top.specs.Means.{Means}
+use Rattle.escrow_top.proofs.CommandLaws.{check_no, check_yes, found_reached, never_usage, reached_by, structure_wrote, usage_apart, words_mean}
 use Rattle.escrow_top.proofs.program.run_watched.Goals as goal
 
-pub returns-in-Some-Structure-clause-exactly : goal.returns-in-Some-Structure-clause-exactly
-returns-in-Some-Structure-clause-exactly g c = λ reached.
-    let is = rw c.in-Some-Structure.field-0-is at c.in-Some-Structure.ensures in
-    none_exactly _ (g.D.Desk.told c.args.desk.now) (map string_bytes c.args.words.now) (structure-askings_none (map string_bytes c.args.words.now) _ is)
+pub returns-in-Some-clause-means : goal.returns-in-Some-clause-means
+returns-in-Some-clause-means g c = λ reached.
+    words_mean (g.D.Desk.told c.args.desk.now) (g.D.Desk.told c.carry_out.new.desk) (map string_bytes c.args.words.now) (command_view c.in-Some.command) c.carry_out.result
+    c.in-Some.ensures (c.carry_out.ensures.means reached)
 
-pub returns-in-Some-Structure-clause-bytes : goal.returns-in-Some-Structure-clause-bytes
-returns-in-Some-Structure-clause-bytes g c = λ steady lasts.
-    let is = rw c.in-Some-Structure.field-0-is at c.in-Some-Structure.ensures in
-    none_exactly _ (g.D.Desk.told c.args.desk.now) (map string_bytes c.args.words.now) (structure-askings_none (map string_bytes c.args.words.now) _ is)
+pub returns-in-Some-clause-yes : goal.returns-in-Some-clause-yes
+returns-in-Some-clause-yes g c = λ done.
+    check_yes (g.D.Desk.told c.args.desk.now) (g.D.Desk.told c.carry_out.new.desk) (map string_bytes c.args.words.now) c.carry_out.result
+    (returns-in-Some-clause-means g c (reached_by c.carry_out.result status.Done done refl)) done
 
-pub returns-in-Some-Ask-clause-exactly : goal.returns-in-Some-Ask-clause-exactly
-returns-in-Some-Ask-clause-exactly g c = λ reached.
-    let is = rw c.in-Some-Ask.field-0-is at c.in-Some-Ask.ensures in
-    asked_exactly _ (g.D.Desk.told c.args.desk.now) (map string_bytes c.args.words.now) _ is.1 (c.run_asking.ensures.exactly reached)
+pub returns-in-Some-clause-no : goal.returns-in-Some-clause-no
+returns-in-Some-clause-no g c = λ denied.
+    check_no (g.D.Desk.told c.args.desk.now) (g.D.Desk.told c.carry_out.new.desk) (map string_bytes c.args.words.now) c.carry_out.result
+    (returns-in-Some-clause-means g c (reached_by c.carry_out.result status.No denied refl)) denied
 
-pub returns-in-Some-Structure-clause-checked : goal.returns-in-Some-Structure-clause-checked
-returns-in-Some-Structure-clause-checked g c = λ reached.
-    let is = rw c.in-Some-Structure.field-0-is at c.in-Some-Structure.ensures in
-    rw (structure-askings_none (map string_bytes c.args.words.now) _ is) tt
+pub returns-in-Some-clause-wrote : goal.returns-in-Some-clause-wrote
+returns-in-Some-clause-wrote g c = λ found.
+    structure_wrote (g.D.Desk.told c.args.desk.now) (g.D.Desk.told c.carry_out.new.desk) (map string_bytes c.args.words.now) c.carry_out.result
+    (returns-in-Some-clause-means g c (found_reached c.carry_out.result found)) found
 
-pub returns-in-Some-Make-clause-exactly : goal.returns-in-Some-Make-clause-exactly
-returns-in-Some-Make-clause-exactly g c = λ reached.
-    let is = rw c.in-Some-Make.field-0-is at c.in-Some-Make.ensures in
-    none_exactly _ (g.D.Desk.told c.args.desk.now) (map string_bytes c.args.words.now) (make-askings_none (map string_bytes c.args.words.now) _ is)
+pub returns-in-Some-clause-usage : goal.returns-in-Some-clause-usage
+returns-in-Some-clause-usage g c = λ reached.
+    let is = c.in-Some.ensures in (
+      (λ unused. absurd (never_usage (g.D.Desk.told c.args.desk.now) (g.D.Desk.told c.carry_out.new.desk) (command_view c.in-Some.command) c.carry_out.result (c.carry_out.ensures.means reached) unused)),
+      (λ none. absurd (let clash : Some (command_view c.in-Some.command) ≡ None = is ∙ none in cc)),
+    )
 
-pub returns-in-Some-Make-clause-bytes : goal.returns-in-Some-Make-clause-bytes
-returns-in-Some-Make-clause-bytes g c = λ steady lasts.
-    let is = rw c.in-Some-Make.field-0-is at c.in-Some-Make.ensures in
-    none_exactly _ (g.D.Desk.told c.args.desk.now) (map string_bytes c.args.words.now) (make-askings_none (map string_bytes c.args.words.now) _ is)
+pub returns-in-Some-clause-answers : goal.returns-in-Some-clause-answers
+returns-in-Some-clause-answers g c = λ reached.
+    let told = g.D.Desk.told c.args.desk.now in
+    subst (λ (found : Option Command). Reaches (IsOutcome told found) told c.carry_out.result (g.D.Desk.told c.carry_out.new.desk)) c.in-Some.ensures (c.carry_out.ensures.answers reached)
 
-pub returns-in-Some-Make-clause-yes : goal.returns-in-Some-Make-clause-yes
-returns-in-Some-Make-clause-yes g c = λ done.
-    let is = rw c.in-Some-Make.field-0-is at c.in-Some-Make.ensures in
-    rw (make-checks_none (map string_bytes c.args.words.now) _ is) tt
+pub returns-in-Some-clause-part : goal.returns-in-Some-clause-part
+returns-in-Some-clause-part g c = λ failed.
+    let told = g.D.Desk.told c.args.desk.now in
+    subst (λ (found : Option Command). ReachesPart (IsOutcome told found) told (g.D.Desk.told c.carry_out.new.desk)) c.in-Some.ensures (c.carry_out.ensures.part failed)
 
-pub returns-in-Some-Make-clause-saved : goal.returns-in-Some-Make-clause-saved
-returns-in-Some-Make-clause-saved g c = λ done.
-    let is = rw c.in-Some-Make.field-0-is at c.in-Some-Make.ensures in
-    rw (make-savings_none (map string_bytes c.args.words.now) _ is) tt
+pub returns-in-Some-clause-lacks : goal.returns-in-Some-clause-lacks
+returns-in-Some-clause-lacks g c = λ absent. subst (λ (found : Option Command). LacksFile (g.D.Desk.told c.args.desk.now) found) c.in-Some.ensures (c.carry_out.ensures.lacks absent)
 
-pub returns-in-Some-Make-clause-rolled : goal.returns-in-Some-Make-clause-rolled
-returns-in-Some-Make-clause-rolled g c = λ done.
-    let is = rw c.in-Some-Make.field-0-is at c.in-Some-Make.ensures in
-    rw (make-rolls_none (map string_bytes c.args.words.now) _ is) tt
+pub returns-in-Some-clause-bytes : goal.returns-in-Some-clause-bytes
+returns-in-Some-clause-bytes g c = λ steady lasts.
+    let told = g.D.Desk.told c.args.desk.now in
+    subst (λ (found : Option Command). IfSome found (λ command. AnswersBytes told command c.carry_out.result (g.D.Desk.told c.carry_out.new.desk))) c.in-Some.ensures (c.carry_out.ensures.bytes steady lasts)
 
-pub returns-in-Some-Make-clause-yes_at_cap : goal.returns-in-Some-Make-clause-yes_at_cap
-returns-in-Some-Make-clause-yes_at_cap g c = λ done.
-    let is = rw c.in-Some-Make.field-0-is at c.in-Some-Make.ensures in
-    rw (make-check_caps_none (map string_bytes c.args.words.now) _ is) tt
+pub returns-in-Some-clause-no_read : goal.returns-in-Some-clause-no_read
+returns-in-Some-clause-no_read g c = subst (λ (found : Option Command). IfSome found (λ command. ReadsNoFile command c.carry_out.result)) c.in-Some.ensures c.carry_out.ensures.no_read
 
-pub returns-in-Some-Make-clause-wrote : goal.returns-in-Some-Make-clause-wrote
-returns-in-Some-Make-clause-wrote g c = λ done.
-    let is = rw c.in-Some-Make.field-0-is at c.in-Some-Make.ensures in
-    rw (make-structures_none (map string_bytes c.args.words.now) _ is) tt
+-- ---- words that are no command
+pub returns-in-None-clause-means : goal.returns-in-None-clause-means
+returns-in-None-clause-means g c = λ reached.
+    subst (λ (found : Option Command). IfSome found (λ command. Means (g.D.Desk.told c.args.desk.now) command c.say_usage.result (g.D.Desk.told c.say_usage.new.desk))) c.in-None.ensures tt
 
-pub returns-in-Some-Make-clause-wrote_none : goal.returns-in-Some-Make-clause-wrote_none
-returns-in-Some-Make-clause-wrote_none g c = λ none.
-    let is = rw c.in-Some-Make.field-0-is at c.in-Some-Make.ensures in
-    rw (make-structures_none (map string_bytes c.args.words.now) _ is) tt
+pub returns-in-None-clause-yes : goal.returns-in-None-clause-yes
+returns-in-None-clause-yes g c = λ done.
+    absurd (let clash : status.Done ≡ status.Usage = sym done ∙ (c.say_usage.ensures.whole (reached_by c.say_usage.result status.Done done refl)).0 in cc)
 
-pub returns-in-Some-Make-clause-plain : goal.returns-in-Some-Make-clause-plain
-returns-in-Some-Make-clause-plain g c = λ reached.
-    let is = rw c.in-Some-Make.field-0-is at c.in-Some-Make.ensures in
-    rw (make-structures_none (map string_bytes c.args.words.now) _ is) tt
+pub returns-in-None-clause-no : goal.returns-in-None-clause-no
+returns-in-None-clause-no g c = λ denied.
+    absurd (let clash : status.No ≡ status.Usage = sym denied ∙ (c.say_usage.ensures.whole (reached_by c.say_usage.result status.No denied refl)).0 in cc)
 
-pub returns-in-Some-Make-clause-covered : goal.returns-in-Some-Make-clause-covered
-returns-in-Some-Make-clause-covered g c = λ reached.
-    let is = rw c.in-Some-Make.field-0-is at c.in-Some-Make.ensures in
-    rw (make-structures_none (map string_bytes c.args.words.now) _ is) tt
+pub returns-in-None-clause-wrote : goal.returns-in-None-clause-wrote
+returns-in-None-clause-wrote g c = λ found.
+    absurd (usage_apart c.say_usage.result found (c.say_usage.ensures.whole (found_reached c.say_usage.result found)).0)
 
-pub returns-in-Some-Make-clause-reach : goal.returns-in-Some-Make-clause-reach
-returns-in-Some-Make-clause-reach g c = λ reached.
-    let is = rw c.in-Some-Make.field-0-is at c.in-Some-Make.ensures in
-    rw (make-structures_none (map string_bytes c.args.words.now) _ is) tt
+pub returns-in-None-clause-usage : goal.returns-in-None-clause-usage
+returns-in-None-clause-usage g c = λ reached. ((λ unused. sym c.in-None.ensures), (λ none. (c.say_usage.ensures.whole reached).0))
 
-pub returns-in-Some-Make-clause-made : goal.returns-in-Some-Make-clause-made
-returns-in-Some-Make-clause-made g c = λ done.
-    let is = rw c.in-Some-Make.field-0-is at c.in-Some-Make.ensures in
-    rw is (c.run_make.ensures.made done)
+pub returns-in-None-clause-answers : goal.returns-in-None-clause-answers
+returns-in-None-clause-answers g c = λ reached.
+    let told = g.D.Desk.told c.args.desk.now in
+    subst (λ (found : Option Command). Reaches (IsOutcome told found) told c.say_usage.result (g.D.Desk.told c.say_usage.new.desk)) c.in-None.ensures
+    (record { outcome = saying usage_answer; is = refl; done = c.say_usage.ensures.whole reached })
 
-pub returns-in-Some-Make-clause-made_none : goal.returns-in-Some-Make-clause-made_none
-returns-in-Some-Make-clause-made_none g c = λ none.
-    let is = rw c.in-Some-Make.field-0-is at c.in-Some-Make.ensures in
-    rw is (c.run_make.ensures.made_none none)
+pub returns-in-None-clause-part : goal.returns-in-None-clause-part
+returns-in-None-clause-part g c = λ failed.
+    let told = g.D.Desk.told c.args.desk.now in
+    subst (λ (found : Option Command). ReachesPart (IsOutcome told found) told (g.D.Desk.told c.say_usage.new.desk)) c.in-None.ensures
+    (record { outcome = saying usage_answer; is = refl; failed = c.say_usage.ensures.part failed })
 
-pub returns-in-Some-Cap-clause-exactly : goal.returns-in-Some-Cap-clause-exactly
-returns-in-Some-Cap-clause-exactly g c = λ reached.
-    let is = rw c.in-Some-Cap.field-0-is at c.in-Some-Cap.ensures in
-    none_exactly _ (g.D.Desk.told c.args.desk.now) (map string_bytes c.args.words.now) (cap-askings_none (map string_bytes c.args.words.now) _ is)
+pub returns-in-None-clause-lacks : goal.returns-in-None-clause-lacks
+returns-in-None-clause-lacks g c = λ absent. absurd (c.say_usage.ensures.no_other.1 absent)
 
-pub returns-in-Some-Cap-clause-bytes : goal.returns-in-Some-Cap-clause-bytes
-returns-in-Some-Cap-clause-bytes g c = λ steady lasts.
-    let is = rw c.in-Some-Cap.field-0-is at c.in-Some-Cap.ensures in
-    none_exactly _ (g.D.Desk.told c.args.desk.now) (map string_bytes c.args.words.now) (cap-askings_none (map string_bytes c.args.words.now) _ is)
+pub returns-in-None-clause-bytes : goal.returns-in-None-clause-bytes
+returns-in-None-clause-bytes g c = λ steady lasts.
+    subst (λ (found : Option Command). IfSome found (λ command. AnswersBytes (g.D.Desk.told c.args.desk.now) command c.say_usage.result (g.D.Desk.told c.say_usage.new.desk))) c.in-None.ensures tt
 
-pub returns-in-Some-Cap-clause-yes : goal.returns-in-Some-Cap-clause-yes
-returns-in-Some-Cap-clause-yes g c = λ done.
-    let is = rw c.in-Some-Cap.field-0-is at c.in-Some-Cap.ensures in
-    rw (cap-checks_none (map string_bytes c.args.words.now) _ is) tt
-
-pub returns-in-Some-Cap-clause-saved : goal.returns-in-Some-Cap-clause-saved
-returns-in-Some-Cap-clause-saved g c = λ done.
-    let is = rw c.in-Some-Cap.field-0-is at c.in-Some-Cap.ensures in
-    rw (cap-savings_none (map string_bytes c.args.words.now) _ is) tt
-
-pub returns-in-Some-Cap-clause-rolled : goal.returns-in-Some-Cap-clause-rolled
-returns-in-Some-Cap-clause-rolled g c = λ done.
-    let is = rw c.in-Some-Cap.field-0-is at c.in-Some-Cap.ensures in
-    rw (cap-rolls_none (map string_bytes c.args.words.now) _ is) tt
-
-pub returns-in-Some-Cap-clause-yes_at_cap : goal.returns-in-Some-Cap-clause-yes_at_cap
-returns-in-Some-Cap-clause-yes_at_cap g c = λ done.
-    let is = rw c.in-Some-Cap.field-0-is at c.in-Some-Cap.ensures in
-    rw (cap-check_caps_none (map string_bytes c.args.words.now) _ is) tt
-
-pub returns-in-Some-Cap-clause-wrote : goal.returns-in-Some-Cap-clause-wrote
-returns-in-Some-Cap-clause-wrote g c = λ done.
-    let is = rw c.in-Some-Cap.field-0-is at c.in-Some-Cap.ensures in
-    rw (cap-structures_none (map string_bytes c.args.words.now) _ is) tt
-
-pub returns-in-Some-Cap-clause-wrote_none : goal.returns-in-Some-Cap-clause-wrote_none
-returns-in-Some-Cap-clause-wrote_none g c = λ none.
-    let is = rw c.in-Some-Cap.field-0-is at c.in-Some-Cap.ensures in
-    rw (cap-structures_none (map string_bytes c.args.words.now) _ is) tt
-
-pub returns-in-Some-Cap-clause-plain : goal.returns-in-Some-Cap-clause-plain
-returns-in-Some-Cap-clause-plain g c = λ reached.
-    let is = rw c.in-Some-Cap.field-0-is at c.in-Some-Cap.ensures in
-    rw (cap-structures_none (map string_bytes c.args.words.now) _ is) tt
-
-pub returns-in-Some-Cap-clause-covered : goal.returns-in-Some-Cap-clause-covered
-returns-in-Some-Cap-clause-covered g c = λ reached.
-    let is = rw c.in-Some-Cap.field-0-is at c.in-Some-Cap.ensures in
-    rw (cap-structures_none (map string_bytes c.args.words.now) _ is) tt
-
-pub returns-in-Some-Cap-clause-reach : goal.returns-in-Some-Cap-clause-reach
-returns-in-Some-Cap-clause-reach g c = λ reached.
-    let is = rw c.in-Some-Cap.field-0-is at c.in-Some-Cap.ensures in
-    rw (cap-structures_none (map string_bytes c.args.words.now) _ is) tt
-
-pub returns-in-Some-Cap-clause-checked : goal.returns-in-Some-Cap-clause-checked
-returns-in-Some-Cap-clause-checked g c = λ reached.
-    let is = rw c.in-Some-Cap.field-0-is at c.in-Some-Cap.ensures in
-    rw (cap-askings_none (map string_bytes c.args.words.now) _ is) tt
-
-pub returns-in-Some-Cap-clause-structured : goal.returns-in-Some-Cap-clause-structured
-returns-in-Some-Cap-clause-structured g c = λ reached.
-    let is = rw c.in-Some-Cap.field-0-is at c.in-Some-Cap.ensures in
-    rw (cap-structures_none (map string_bytes c.args.words.now) _ is) tt
-
-pub returns-in-Some-Cap-clause-made : goal.returns-in-Some-Cap-clause-made
-returns-in-Some-Cap-clause-made g c = λ done.
-    let is = rw c.in-Some-Cap.field-0-is at c.in-Some-Cap.ensures in
-    rw (cap-makes_none (map string_bytes c.args.words.now) _ is) tt
-
-pub returns-in-Some-Cap-clause-made_none : goal.returns-in-Some-Cap-clause-made_none
-returns-in-Some-Cap-clause-made_none g c = λ none.
-    let is = rw c.in-Some-Cap.field-0-is at c.in-Some-Cap.ensures in
-    rw (cap-makes_none (map string_bytes c.args.words.now) _ is) tt
-
-pub returns-in-Some-Cap-clause-made_plain : goal.returns-in-Some-Cap-clause-made_plain
-returns-in-Some-Cap-clause-made_plain g c = λ reached.
-    let is = rw c.in-Some-Cap.field-0-is at c.in-Some-Cap.ensures in
-    rw (cap-makes_none (map string_bytes c.args.words.now) _ is) tt
-
-pub returns-in-Some-Cap-clause-made_covered : goal.returns-in-Some-Cap-clause-made_covered
-returns-in-Some-Cap-clause-made_covered g c = λ reached.
-    let is = rw c.in-Some-Cap.field-0-is at c.in-Some-Cap.ensures in
-    rw (cap-makes_none (map string_bytes c.args.words.now) _ is) tt
-
-pub returns-in-Some-Cap-clause-made_reach : goal.returns-in-Some-Cap-clause-made_reach
-returns-in-Some-Cap-clause-made_reach g c = λ reached.
-    let is = rw c.in-Some-Cap.field-0-is at c.in-Some-Cap.ensures in
-    rw (cap-makes_none (map string_bytes c.args.words.now) _ is) tt
-
-pub returns-in-Some-Cap-clause-makes : goal.returns-in-Some-Cap-clause-makes
-returns-in-Some-Cap-clause-makes g c = λ reached.
-    let is = rw c.in-Some-Cap.field-0-is at c.in-Some-Cap.ensures in
-    rw (cap-makes_none (map string_bytes c.args.words.now) _ is) tt
-
-pub returns-in-Some-Cap-clause-capped : goal.returns-in-Some-Cap-clause-capped
-returns-in-Some-Cap-clause-capped g c = λ done.
-    let is = rw c.in-Some-Cap.field-0-is at c.in-Some-Cap.ensures in
-    rw is (c.run_cap.ensures.capped done)
-
-pub returns-in-Some-Structure-clause-capped : goal.returns-in-Some-Structure-clause-capped
-returns-in-Some-Structure-clause-capped g c = λ done.
-    let is = rw c.in-Some-Structure.field-0-is at c.in-Some-Structure.ensures in
-    rw (structure-caps_none (map string_bytes c.args.words.now) _ is) tt
-
-pub returns-in-Some-Make-clause-capped : goal.returns-in-Some-Make-clause-capped
-returns-in-Some-Make-clause-capped g c = λ done.
-    let is = rw c.in-Some-Make.field-0-is at c.in-Some-Make.ensures in
-    rw (make-caps_none (map string_bytes c.args.words.now) _ is) tt
-
-pub returns-in-Some-Ask-clause-capped : goal.returns-in-Some-Ask-clause-capped
-returns-in-Some-Ask-clause-capped g c = λ done.
-    let is = rw c.in-Some-Ask.field-0-is at c.in-Some-Ask.ensures in
-    rw (asking-caps_none (map string_bytes c.args.words.now) _ is.1) tt
-
-pub returns-in-Some-Cap-clause-uncapped : goal.returns-in-Some-Cap-clause-uncapped
-returns-in-Some-Cap-clause-uncapped g c = λ reached.
-    let is = rw c.in-Some-Cap.field-0-is at c.in-Some-Cap.ensures in
-    rw is (c.run_cap.ensures.uncapped reached)
-
-pub returns-in-Some-Structure-clause-uncapped : goal.returns-in-Some-Structure-clause-uncapped
-returns-in-Some-Structure-clause-uncapped g c = λ reached.
-    let is = rw c.in-Some-Structure.field-0-is at c.in-Some-Structure.ensures in
-    rw (structure-caps_none (map string_bytes c.args.words.now) _ is) tt
-
-pub returns-in-Some-Make-clause-uncapped : goal.returns-in-Some-Make-clause-uncapped
-returns-in-Some-Make-clause-uncapped g c = λ reached.
-    let is = rw c.in-Some-Make.field-0-is at c.in-Some-Make.ensures in
-    rw (make-caps_none (map string_bytes c.args.words.now) _ is) tt
-
-pub returns-in-Some-Ask-clause-uncapped : goal.returns-in-Some-Ask-clause-uncapped
-returns-in-Some-Ask-clause-uncapped g c = λ reached.
-    let is = rw c.in-Some-Ask.field-0-is at c.in-Some-Ask.ensures in
-    rw (asking-caps_none (map string_bytes c.args.words.now) _ is.1) tt
-
-pub returns-in-Some-Cap-clause-caps : goal.returns-in-Some-Cap-clause-caps
-returns-in-Some-Cap-clause-caps g c = λ reached.
-    let is = rw c.in-Some-Cap.field-0-is at c.in-Some-Cap.ensures in
-    rw is (c.run_cap.ensures.structured reached)
-
-pub returns-in-Some-Structure-clause-caps : goal.returns-in-Some-Structure-clause-caps
-returns-in-Some-Structure-clause-caps g c = λ reached.
-    let is = rw c.in-Some-Structure.field-0-is at c.in-Some-Structure.ensures in
-    rw (structure-caps_none (map string_bytes c.args.words.now) _ is) tt
-
-pub returns-in-Some-Make-clause-caps : goal.returns-in-Some-Make-clause-caps
-returns-in-Some-Make-clause-caps g c = λ reached.
-    let is = rw c.in-Some-Make.field-0-is at c.in-Some-Make.ensures in
-    rw (make-caps_none (map string_bytes c.args.words.now) _ is) tt
-
-pub returns-in-Some-Ask-clause-caps : goal.returns-in-Some-Ask-clause-caps
-returns-in-Some-Ask-clause-caps g c = λ reached.
-    let is = rw c.in-Some-Ask.field-0-is at c.in-Some-Ask.ensures in
-    rw (asking-caps_none (map string_bytes c.args.words.now) _ is.1) tt
-
-pub returns-in-Some-Cap-clause-yes_beside : goal.returns-in-Some-Cap-clause-yes_beside
-returns-in-Some-Cap-clause-yes_beside g c = λ done.
-    let is = rw c.in-Some-Cap.field-0-is at c.in-Some-Cap.ensures in
-    rw (cap-check_helds_none (map string_bytes c.args.words.now) _ is) tt
-
-pub returns-in-Some-Make-clause-yes_beside : goal.returns-in-Some-Make-clause-yes_beside
-returns-in-Some-Make-clause-yes_beside g c = λ done.
-    let is = rw c.in-Some-Make.field-0-is at c.in-Some-Make.ensures in
-    rw (make-check_helds_none (map string_bytes c.args.words.now) _ is) tt
+pub returns-in-None-clause-no_read : goal.returns-in-None-clause-no_read
+returns-in-None-clause-no_read g c = subst (λ (found : Option Command). IfSome found (λ command. ReadsNoFile command c.say_usage.result)) c.in-None.ensures tt
