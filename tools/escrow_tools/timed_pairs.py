@@ -10,7 +10,11 @@ from pathlib import Path
 
 WHAT = """\
 Runs two programs in turn in the folder of a case, each as `PROGRAM check issue.csv rates.csv prices.csv CERT`, and says the median
-of each one's milliseconds and of the ratios of its pairs. Of programs that answer differently no time is said."""
+of each one's milliseconds and of the ratios of its pairs. No time is said of programs that answer differently, that can't be run,
+or that don't come to a verdict."""
+
+# The statuses with which a certificate was judged: yes and no.
+VERDICTS = (0, 1)
 
 
 def timed(program: Path, folder: Path, certificate: str) -> tuple[float, tuple[int, bytes]]:
@@ -33,10 +37,15 @@ def run(arguments: list[str]) -> int:
     pairs = []
     for number in range(chosen.pairs):
         turn = programs if number % 2 == 0 else programs[::-1]
-        times = {program: timed(program, chosen.folder, chosen.certificate) for program in turn}
+        try:
+            times = {program: timed(program, chosen.folder, chosen.certificate) for program in turn}
+        except OSError as fault:
+            parser.exit(1, "%s can't be run: %s\n" % (fault.filename, fault.strerror))
         (one, said), (other, other_said) = (times[program] for program in programs)
         if said != other_said:
             parser.exit(1, "the programs answer differently\n")
+        if said[0] not in VERDICTS:
+            parser.exit(1, "the programs come to no verdict: status %d\n" % said[0])
         pairs.append((1000 * one, 1000 * other, one / other))
     if not pairs:
         parser.error("there are no pairs to run")

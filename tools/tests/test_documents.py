@@ -164,17 +164,23 @@ class TimedCasesTest(FolderTest):
                     self.assertEqual((ran.status, ran.lines[0]), (0, "yes"))
 
     def test_pairs(self) -> None:
-        """Two programs are run in turn; of those that answer differently no time is said."""
-        for name, line in (("one", "echo yes"), ("same", "echo yes"), ("other", "echo no; exit 1")):
+        """Two programs are run in turn; of those that answer differently, or not at all, no time is said."""
+        for name, line in (("one", "echo yes"), ("same", "echo yes"), ("other", "echo no; exit 1"), ("lost", "exit 66")):
             write_command(self.folder / name, "#!/bin/sh\n%s\n" % line)
         words = [str(self.folder / "one"), str(self.folder / "same"), str(self.folder), "--pairs", "3"]
         with contextlib.redirect_stdout(io.StringIO()) as said:
             self.assertEqual(run_timed_pairs(words), 0)
         self.assertRegex(said.getvalue(), r"^\d+\.\d\d ms, \d+\.\d\d ms, ratio \d+\.\d{3}\n$")
-        words[1] = str(self.folder / "other")
-        with self.assertRaises(SystemExit) as ended, contextlib.redirect_stderr(io.StringIO()) as said:
-            run_timed_pairs(words)
-        self.assertEqual((ended.exception.code, said.getvalue()), (1, "the programs answer differently\n"))
+        for others, told in (
+            (["one", "other"], "the programs answer differently"),
+            (["lost", "lost"], "the programs come to no verdict: status 66"),
+            (["one", "none"], "can't be run"),
+        ):
+            words[:2] = [str(self.folder / name) for name in others]
+            with self.assertRaises(SystemExit) as ended, contextlib.redirect_stderr(io.StringIO()) as said:
+                run_timed_pairs(words)
+            self.assertEqual(ended.exception.code, 1)
+            self.assertIn(told, said.getvalue())
 
     def test_rates(self) -> None:
         self.assertEqual(CASES["lines"]()["rates.csv"].splitlines()[1:6:4], ["rate,2026-01-30,2027-01-15,3.50", "rate,2030-01-16,2031-01-15,3.62"])
